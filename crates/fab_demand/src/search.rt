@@ -21,7 +21,7 @@ use fab_network::{Clock, Network, Readers, Source, lead_of_source};
 use fab_ternary::Tern;
 use std::alloc::Global;
 
-/// What a search knows. All is sized by the number of points at first, and takes no memory afterwards.
+/// What a search knows. All is sized by the number of points at first; what takes memory afterwards helps for speed alone.
 #[derive(Drop)]
 pub struct Search {
     /// By the number of the point: what is known of it.

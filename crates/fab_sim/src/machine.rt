@@ -30,8 +30,8 @@ use fab_wiring::laws::{numbered_exists, numbered_kept, numbered_solutions};
 use fab_wiring::network_of;
 use std::alloc::Global;
 
-/// A text that is simulated with the ports and the flip-flops of a state. All memory is taken when it is made, but that of forms, for which it goes
-/// on without where there is none.
+/// A text that is simulated with the ports and the flip-flops of a state. All memory is taken when it is made, but that of forms and of what helps in loops
+/// of wide names: where there is none for them, it goes on without.
 #[derive(Drop)]
 pub struct Machine {
     pub(crate) network: Network,
