@@ -1,13 +1,6 @@
 //! Where the values of the nodes of an expression stand.
 
-ghost use Rattle.std.specs.Prelude.{◌≡◌, IfOk};
-ghost use Rattle.fab_compiled.specs.declared.tree.Tree.{Tree};
-ghost use Rattle.fab_compiled.specs.Trees.{IsMade};
-ghost use Rattle.fab_nodes.specs.Nodes.{IsLaidOut, IsNodeOf};
 
-use fab_base::Memory;
-use fab_compiled::Tree;
-use std::alloc::Global;
 
 /// What is told of a node of an expression.
 #[derive(Clone, Copy, Debug)]
@@ -39,24 +32,3 @@ pub enum Layout {
     Three(Node, Box<Layout>, Box<Layout>, Box<Layout>),
 }
 
-impl Layout {
-    /// What is told of the whole expression.
-    pub(crate) fn node(&self) -> Node
-        ensures { (tree : Tree) → IsLaidOut tree self.now → IsNodeOf tree result }
-    {
-        match self {
-            Layout::Leaf(node) => *node,
-            Layout::One(node, _) => *node,
-            Layout::Two(node, _, _) => *node,
-            Layout::Three(node, _, _, _) => *node,
-        }
-    }
-}
-
-/// The layout of an expression. The error is want of memory, also where there are more bits than memory can have.
-pub(crate) fn layout_of(alloc: Global, tree: &Tree) -> Result<Box<Layout>, Memory>
-    requires made { IsMade tree.now }
-    ensures { IfOk result (λ layout. IsLaidOut tree.now layout.value) }
-{
-    Err(Memory)
-}

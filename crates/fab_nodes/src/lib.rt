@@ -3,7 +3,6 @@
 
 mod filling;
 mod layout;
-mod operands;
 mod renewing;
 mod values;
 

