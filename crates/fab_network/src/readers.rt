@@ -1,7 +1,7 @@
 //! Which points read a point, for another look at them where it has come to be known.
 
 use crate::network::{Drive, Network, Source};
-use crate::runs::{drive_at, end_of_run, is_together};
+use crate::runs::{Run, drive_at, end_of_run, is_together};
 use fab_base::Memory;
 use fab_compiled::Tree;
 use fab_ternary::Tern;
@@ -443,6 +443,49 @@ impl Readers {
                 before
             }
             None => 0,
+        }
+    }
+
+    pub(crate) fn run(&self, number: usize) -> Option<Run> {
+        if self.fresh {
+            Some(Run {
+                first: u32::MAX,
+                count: 0,
+            })
+        } else {
+            None
+        }
+    }
+
+    pub(crate) fn place_of(&self, point: u32) -> Option<usize> {
+        if self.fresh {
+            Some(point as usize)
+        } else {
+            None
+        }
+    }
+
+    pub(crate) fn first_copy(&self, point: u32) -> Option<u32> {
+        if self.fresh { Some(point) } else { None }
+    }
+
+    pub(crate) fn next_copy(&self, copy: u32) -> Option<u32> {
+        if self.fresh { Some(copy) } else { None }
+    }
+
+    pub(crate) fn first_run_note(&self, point: u32) -> Option<u32> {
+        if self.fresh { Some(point) } else { None }
+    }
+
+    pub(crate) fn next_run_note(&self, note: u32) -> Option<u32> {
+        if self.fresh { Some(note) } else { None }
+    }
+
+    pub(crate) fn run_of(&self, note: u32) -> Option<usize> {
+        if self.fresh {
+            Some(note as usize)
+        } else {
+            None
         }
     }
 }

@@ -73,3 +73,10 @@ fn is_beside(drive: Drive, next: Drive) -> bool {
         _ => false,
     }
 }
+
+/// Points that follow one another and are bits of one wide expression, or latches behind one gate that take such bits.
+#[derive(Clone, Copy, Debug)]
+pub(crate) struct Run {
+    pub(crate) first: u32,
+    pub(crate) count: u32,
+}
