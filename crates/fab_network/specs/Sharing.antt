@@ -44,7 +44,7 @@ pub record IsKeptOfRun (trees : List Tree) (count : ℕ) (t : PointTerns) (value
 
 -- the same of all runs
 abbrev pub IsSpread : List Tree → (count : ℕ) → PointTerns → Spread → Type 0
-IsSpread trees count t spread = All (IsKeptOfRun trees count t) spread.runs.items
+IsSpread trees count t spread = All (IsKeptOfRun trees count t) spread.values.items
 
 -- What a pass keeps of expressions is right of them.
 pub record AreShared (trees : List Tree) (count : ℕ) (t : PointTerns) (values : KeptValues) : Type 0 where

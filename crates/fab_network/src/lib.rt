@@ -7,6 +7,7 @@ mod leading;
 mod network;
 mod passes;
 mod readers;
+mod reads;
 mod run_values;
 mod runs;
 mod scene;

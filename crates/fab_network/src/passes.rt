@@ -264,7 +264,7 @@ fn look_again(scene: &Scene, readers: &mut Readers, terns: &mut [Tern])
     readers.begin(scene.order, terns);
     let alloc = *scene.network.trees.allocator();
     let mut spread = Spread::new(alloc);
-    spread.begin(scene, readers, terns);
+    spread.begin(scene, &readers.runs, terns);
     let mut shared = KeptValues::new(alloc);
     look_at_waiting(scene, readers, &mut shared, &mut spread, terns);
 }
@@ -311,7 +311,7 @@ fn look_on(
 {
     if let Some(point) = spread.next_found() {
         readers.find(point);
-        spread.spread(scene, readers, point, terns);
+        spread.spread(scene, &readers.runs, point, terns);
         shared.note_change();
         return true;
     }

@@ -1,12 +1,12 @@
 //! Which points read a point, for another look at them where it has come to be known.
 
 use crate::network::{Drive, Network, Source};
-use crate::runs::{Run, drive_at, end_of_run, is_together};
+use crate::reads::{Range, ranges_of};
+use crate::runs::Runs;
 use fab_base::Memory;
 use fab_compiled::Tree;
 use fab_ternary::Tern;
 use std::alloc::Global;
-use std::ops::Range;
 
 /// Stands for the place of a note where there is none.
 const NO_NOTE: u32 = u32::MAX;
@@ -24,25 +24,21 @@ const IDLE: u32 = u32::MAX - 1;
 const NOTES_OF_A_POINT: usize = 4;
 
 /// The readers of points, so that `settle` looks again at those alone that read what has come to be known. A reader is the place in the order of a point, or
-/// of the first of a run. They are a help for speed: what `settle` finds does not depend on them. All is sized by the number of points at first, and takes no
-/// memory afterwards.
+/// a run of points of a wide expression. They are a help for speed: what `settle` finds does not depend on them.
 #[derive(Drop)]
 pub struct Readers {
     /// By the number of a point: the place of the last note of a reader of it.
     last: Vec<u32>,
     notes: Vec<Note>,
-    /// By the place in the order: the place behind the run that begins there, or 0 where none does.
-    ends: Vec<u32>,
+    /// Readers that are bits of wide expressions.
+    pub(crate) runs: Runs,
     /// Whether the notes are those of the order as it is.
     fresh: bool,
     /// By the reader: the one that waits behind it to be looked at again, `NOBODY` behind the last one, and `IDLE` where it does not wait.
     behind: Vec<u32>,
-    /// Points that wait each for itself.
-    points: Queue,
-    /// Runs that wait: each takes long, so they are looked at when no point waits.
-    runs: Queue,
-    /// By the reader: how often a run has been looked at.
-    turns: Vec<u8>,
+    waiting: Queue,
+    /// What an expression reads, while it is noted.
+    ranges: Vec<Range>,
 }
 
 /// Readers that wait, one behind the other.
@@ -92,12 +88,11 @@ impl Readers {
         Ok(Readers {
             last: vec![in alloc; UNLISTED; points]?,
             notes: Vec::with_capacity(alloc, points.saturating_mul(NOTES_OF_A_POINT))?,
-            ends: vec![in alloc; 0; points]?,
+            runs: Runs::new(alloc, points)?,
             fresh: false,
             behind: vec![in alloc; IDLE; points]?,
-            points: Queue::NONE,
-            runs: Queue::NONE,
-            turns: vec![in alloc; 0; points]?,
+            waiting: Queue::NONE,
+            ranges: Vec::new(alloc),
         })
     }
 
@@ -114,90 +109,25 @@ impl Readers {
             return;
         }
         self.list(order);
-        let mut end = 0;
-        for place in 0..order.len() {
+        self.runs.note(network, order, leads);
+        for (place, point) in order.iter().enumerate() {
             if self.is_full() {
                 break;
             }
-            if place >= end {
-                end = self.note_run(network, order, place, leads);
+            if !self.runs.has(*point) {
+                self.note_point_at(network, place, *point, leads);
             }
         }
         self.fresh = true;
     }
 
-    // Notes what the point at a place reads, or the run that begins there. Told is the place behind.
-    fn note_run(&mut self, network: &Network, order: &[u32], place: usize, leads: &[u32]) -> usize {
-        let alone = place.saturating_add(1);
-        let (Ok(reader), Some(drive)) = (u32::try_from(place), drive_at(network, order, place))
-        else {
-            return alone;
-        };
-        match end_of_run(network, order, place, drive) {
-            Some(end) if end > alone => {
-                self.note_expressions(network, drive, leads, reader);
-                self.note_data(network, order, place..end, leads);
-                self.set_end(place, end);
-                end
-            }
-            Some(_) => {
-                self.note_drive(network, drive, leads, reader);
-                self.set_end(place, alone);
-                alone
-            }
-            None => {
-                self.note_drive(network, drive, leads, reader);
-                alone
-            }
-        }
-    }
-
-    fn set_end(&mut self, place: usize, end: usize) {
-        if let (Some(kept), Ok(end)) = (self.ends.get_mut(place), u32::try_from(end)) {
-            *kept = end;
-        }
-    }
-
-    /// The place behind the run that begins at a place of the order, if one does.
-    pub(crate) fn end_at(&self, place: usize) -> Option<usize> {
-        match self.ends.get(place) {
-            Some(end) if *end > 0 => Some(*end as usize),
-            _ => None,
-        }
-    }
-
-    // Notes all points of the expressions of a drive whose bits are found together.
-    fn note_expressions(&mut self, network: &Network, drive: Drive, leads: &[u32], reader: u32) {
-        match drive {
-            Drive::Given | Drive::Flop(_, _) | Drive::Same(_) => {}
-            Drive::Value(source) => self.note_expression(network, source, leads, reader),
-            Drive::Hold(gate, latched) => {
-                self.note_expression(network, gate, leads, reader);
-                if is_together(network, latched) {
-                    self.note_expression(network, latched, leads, reader);
-                }
-            }
-        }
-    }
-
-    // Notes what each latch of a run takes, where these bits are not found together: then each of the latches is a reader of its own.
-    fn note_data(&mut self, network: &Network, order: &[u32], run: Range<usize>, leads: &[u32]) {
-        for place in run {
-            let (Some(Drive::Hold(_, latched)), Ok(reader)) = (
-                drive_at(network, order, place),
-                u32::try_from(place),
-            ) else {
-                return;
-            };
-            if !is_together(network, latched) {
-                self.note_source(&network.trees, latched, leads, reader);
-            }
-        }
-    }
-
-    fn note_expression(&mut self, network: &Network, source: Source, leads: &[u32], reader: u32) {
-        if let Some(tree) = network.trees.get(source.tree as usize) {
-            self.note_all(tree, source.first as usize, leads, reader);
+    // Notes what a point reads that stands at this place of the order.
+    fn note_point_at(&mut self, network: &Network, place: usize, point: u32, leads: &[u32]) {
+        if let (Ok(reader), Some(drive)) = (
+            u32::try_from(place),
+            network.drives.get(point as usize),
+        ) {
+            self.note_drive(network, *drive, leads, reader);
         }
     }
 
@@ -209,7 +139,6 @@ impl Readers {
     // These points are in the order, and nothing is noted of them.
     fn list(&mut self, order: &[u32]) {
         self.last.fill(UNLISTED);
-        self.ends.fill(0);
         self.notes.clear();
         for point in order {
             self.set_last(*point, NO_NOTE);
@@ -247,7 +176,7 @@ impl Readers {
             Tree::Const(_) => {}
             Tree::Bits(place, _) => {
                 let place = (*place as usize).saturating_add(bit as usize);
-                self.note_points(first, place, 1, leads, reader);
+                self.note_point(first.saturating_add(place), leads, reader);
             }
             Tree::Cat(low, width, high) => {
                 if bit < *width {
@@ -272,48 +201,18 @@ impl Readers {
         }
     }
 
-    // Notes all points of an expression.
+    // Notes all points of an expression, as far as there is memory to list them.
     fn note_all(&mut self, tree: &Tree, first: usize, leads: &[u32], reader: u32) {
-        match tree {
-            Tree::Const(_) => {}
-            Tree::Bits(place, count) => {
-                self.note_points(first, *place as usize, *count as usize, leads, reader);
-            }
-            Tree::Pick(place, width, index) => {
-                let count = 2usize.wrapping_pow(*width);
-                self.note_points(first, *place as usize, count, leads, reader);
-                self.note_all(index, first, leads, reader);
-            }
-            Tree::Not(inner) => self.note_all(inner, first, leads, reader),
-            Tree::Cat(left, _, right)
-            | Tree::And(left, right)
-            | Tree::Or(left, right)
-            | Tree::Xor(left, right)
-            | Tree::Equal(_, left, right)
-            | Tree::Minus(_, left, right) => {
-                self.note_all(left, first, leads, reader);
-                self.note_all(right, first, leads, reader);
-            }
-            Tree::Cond(test, yes, no) => {
-                self.note_all(test, first, leads, reader);
-                self.note_all(yes, first, leads, reader);
-                self.note_all(no, first, leads, reader);
-            }
+        let _ = ranges_of(tree, first, &mut self.ranges);
+        for place in 0..self.ranges.len() {
+            let range = self.ranges[place];
+            self.note_points(range, leads, reader);
         }
     }
 
     // Notes points that follow one another.
-    fn note_points(
-        &mut self,
-        first: usize,
-        place: usize,
-        count: usize,
-        leads: &[u32],
-        reader: u32,
-    ) {
-        let begin = first.saturating_add(place);
-        let end = begin.saturating_add(count).min(leads.len());
-        for point in begin..end {
+    fn note_points(&mut self, range: Range, leads: &[u32], reader: u32) {
+        for point in range.first..range.end.min(leads.len()) {
             self.note_point(point, leads, reader);
         }
     }
@@ -357,7 +256,6 @@ impl Readers {
 
     /// The readers that stand before a point that is known wait, since a pass came to such a reader first.
     pub(crate) fn begin(&mut self, order: &[u32], terns: &[Tern]) {
-        self.turns.fill(0);
         for (place, point) in order.iter().enumerate() {
             if let Some(Tern::No | Tern::Yes) = terns.get(*point as usize) {
                 let note = self.before(place, self.last_note(*point));
@@ -401,29 +299,20 @@ impl Readers {
         }
     }
 
-    // A reader waits behind all others of its kind, unless it does already.
+    // A reader waits behind all others, unless it does already.
     fn wait(&mut self, reader: u32) {
         match self.behind.get_mut(reader as usize) {
             Some(behind) if *behind == IDLE => *behind = NOBODY,
             _ => return,
         }
-        if self.end_at(reader as usize).is_some() {
-            self.runs = self.runs.with(reader, &mut self.behind);
-        } else {
-            self.points = self.points.with(reader, &mut self.behind);
-        }
+        self.waiting = self.waiting.with(reader, &mut self.behind);
     }
 
     /// The reader that is looked at next, if one waits. It waits no more.
     pub(crate) fn next_waiting(&mut self) -> Option<u32> {
-        let points = self.points.first;
-        if points != NOBODY {
-            self.points.first = self.leave(points)?;
-            return Some(points);
-        }
-        let runs = self.runs.first;
-        self.runs.first = self.leave(runs)?;
-        Some(runs)
+        let reader = self.waiting.first;
+        self.waiting.first = self.leave(reader)?;
+        Some(reader)
     }
 
     // A reader waits no more. Told is the one behind it.
@@ -432,60 +321,5 @@ impl Readers {
         let next = *behind;
         *behind = IDLE;
         Some(next)
-    }
-
-    /// A run is looked at once more. Told is how often it was before.
-    pub(crate) fn take_turn(&mut self, place: usize) -> u8 {
-        match self.turns.get_mut(place) {
-            Some(turns) => {
-                let before = *turns;
-                *turns = before.saturating_add(1);
-                before
-            }
-            None => 0,
-        }
-    }
-
-    pub(crate) fn run(&self, number: usize) -> Option<Run> {
-        if self.fresh {
-            Some(Run {
-                first: u32::MAX,
-                count: 0,
-            })
-        } else {
-            None
-        }
-    }
-
-    pub(crate) fn place_of(&self, point: u32) -> Option<usize> {
-        if self.fresh {
-            Some(point as usize)
-        } else {
-            None
-        }
-    }
-
-    pub(crate) fn first_copy(&self, point: u32) -> Option<u32> {
-        if self.fresh { Some(point) } else { None }
-    }
-
-    pub(crate) fn next_copy(&self, copy: u32) -> Option<u32> {
-        if self.fresh { Some(copy) } else { None }
-    }
-
-    pub(crate) fn first_run_note(&self, point: u32) -> Option<u32> {
-        if self.fresh { Some(point) } else { None }
-    }
-
-    pub(crate) fn next_run_note(&self, note: u32) -> Option<u32> {
-        if self.fresh { Some(note) } else { None }
-    }
-
-    pub(crate) fn run_of(&self, note: u32) -> Option<usize> {
-        if self.fresh {
-            Some(note as usize)
-        } else {
-            None
-        }
     }
 }

@@ -11,9 +11,8 @@ ghost use Rattle.fab_network.specs.Sharing.{IsKeptOfRun, IsKeptWithin, IsSpread}
 
 use crate::network::{Drive, Network, Source};
 use crate::passes::Visit;
-use crate::readers::Readers;
 use crate::run_values::RunValues;
-use crate::runs::Run;
+use crate::runs::{Run, Runs};
 use crate::scene::Scene;
 use crate::within::Within;
 use fab_compiled::{Tree, View};
@@ -27,7 +26,7 @@ const MOST_VALUES: usize = 1 << 28;
 #[derive(Drop)]
 pub struct Spread {
     /// By the number of the run.
-    pub runs: Vec<RunValues>,
+    pub values: Vec<RunValues>,
     /// Points that have come to be known, and what reads them has not been looked at again.
     pub found: Vec<u32>,
     /// How many more values may be kept.
@@ -40,53 +39,47 @@ impl Spread {
         ensures { (trees : List Tree) (count : ℕ) (t : PointTerns) → IsSpread trees count t result }
     {
         Spread {
-            runs: Vec::new(alloc),
+            values: Vec::new(alloc),
             found: Vec::new(alloc),
             room: MOST_VALUES,
         }
     }
 
     /// Finds the values of each run that has an open point, and looks at the points of these runs.
-    pub(crate) fn begin(&mut self, scene: &Scene, readers: &Readers, terns: &mut [Tern])
+    pub(crate) fn begin(&mut self, scene: &Scene, runs: &Runs, terns: &mut [Tern])
         requires ready { IsReady (scene_of scene.now) terns.old }
         requires spread { IsSpread scene.now.network.now.trees.items (length scene.now.leads.now) (seen terns.old scene.now.leads.now) self.old }
         ensures spread { IsSpread scene.now.network.now.trees.items (length scene.now.leads.now) (seen terns.new scene.now.leads.now) self.new }
         ensures further { IsFurther (scene_of scene.now) terns.old terns.new }
     {
         for number in 0..usize::MAX {
-            let Some(run) = readers.run(number) else {
+            let Some(run) = runs.run(number) else {
                 return;
             };
-            if !self.add_run(scene, readers, run, terns) {
+            if !self.add_run(scene, runs, run, terns) {
                 return;
             }
-            self.look_at_all(scene, readers, number, terns);
+            self.look_at_all(scene, runs, number, terns);
         }
     }
 
     // Finds the values of the next run. Told is whether there was memory to keep it.
-    fn add_run(&mut self, scene: &Scene, readers: &Readers, run: Run, terns: &[Tern]) -> bool
+    fn add_run(&mut self, scene: &Scene, runs: &Runs, run: Run, terns: &[Tern]) -> bool
         requires ready { IsReady (scene_of scene.now) terns.now }
         requires spread { IsSpread scene.now.network.now.trees.items (length scene.now.leads.now) (seen terns.now scene.now.leads.now) self.old }
         ensures { IsSpread scene.now.network.now.trees.items (length scene.now.leads.now) (seen terns.now scene.now.leads.now) self.new }
     {
-        let values = self.values_of_run(scene, readers, run, terns);
-        self.runs.push(values).is_ok()
+        let values = self.values_of_run(scene, runs, run, terns);
+        self.values.push(values).is_ok()
     }
 
     // The values of a run, as far as memory and room allow. There is nothing to keep where all its points are known.
-    fn values_of_run(
-        &mut self,
-        scene: &Scene,
-        readers: &Readers,
-        run: Run,
-        terns: &[Tern],
-    ) -> RunValues
+    fn values_of_run(&mut self, scene: &Scene, runs: &Runs, run: Run, terns: &[Tern]) -> RunValues
         requires ready { IsReady (scene_of scene.now) terns.now }
-        ensures runs { self.new.runs.items ≡ self.old.runs.items }
+        ensures values { self.new.values.items ≡ self.old.values.items }
         ensures kept { IsKeptOfRun scene.now.network.now.trees.items (length scene.now.leads.now) (seen terns.now scene.now.leads.now) result }
     {
-        if !has_open_point(readers, run, terns) {
+        if !has_open_point(runs, run, terns) {
             return RunValues::none();
         }
         let view = View {
@@ -104,7 +97,7 @@ impl Spread {
         requires fit { IsFitDrive trees.now (length view.now.leads.now) drive }
         requires view { IsView view.now.terns.now view.now.leads.now }
         requires small { length view.now.leads.now ≤ 2 ^ 32 }
-        ensures runs { self.new.runs.items ≡ self.old.runs.items }
+        ensures values { self.new.values.items ≡ self.old.values.items }
         ensures kept { IsKeptOfRun trees.now (length view.now.leads.now) (seen view.now.terns.now view.now.leads.now) result }
     {
         match drive {
@@ -125,7 +118,7 @@ impl Spread {
         requires fit { IsFitSource trees.now (length view.now.leads.now) source }
         requires view { IsView view.now.terns.now view.now.leads.now }
         requires small { length view.now.leads.now ≤ 2 ^ 32 }
-        ensures runs { self.new.runs.items ≡ self.old.runs.items }
+        ensures values { self.new.values.items ≡ self.old.values.items }
         ensures kept { IfSome result (IsKeptWithin trees.now (length view.now.leads.now) (seen view.now.terns.now view.now.leads.now)) }
     {
         let alloc = *self.found.allocator();
@@ -136,14 +129,14 @@ impl Spread {
 
     /// A point that has come to be known, and what reads it has not been looked at again.
     pub(crate) fn next_found(&mut self) -> Option<u32>
-        ensures { self.new.runs.items ≡ self.old.runs.items }
+        ensures { self.new.values.items ≡ self.old.values.items }
     {
         self.found.pop()
     }
 
     /// What reads a point has to be looked at again where the point has come to be known. Where memory is refused the next pass does that.
     pub(crate) fn note_found(&mut self, point: u32, visit: Visit)
-        ensures { self.new.runs.items ≡ self.old.runs.items }
+        ensures { self.new.values.items ≡ self.old.values.items }
     {
         match visit {
             Visit::Found => {
@@ -154,51 +147,45 @@ impl Spread {
     }
 
     /// A point has come to be known: what the runs show by that is found. What is read is the point itself, or one that is led to it.
-    pub(crate) fn spread(
-        &mut self,
-        scene: &Scene,
-        readers: &Readers,
-        point: u32,
-        terns: &mut [Tern],
-    )
+    pub(crate) fn spread(&mut self, scene: &Scene, runs: &Runs, point: u32, terns: &mut [Tern])
         requires ready { IsReady (scene_of scene.now) terns.old }
         requires spread { IsSpread scene.now.network.now.trees.items (length scene.now.leads.now) (seen terns.old scene.now.leads.now) self.old }
         ensures spread { IsSpread scene.now.network.now.trees.items (length scene.now.leads.now) (seen terns.new scene.now.leads.now) self.new }
         ensures further { IsFurther (scene_of scene.now) terns.old terns.new }
     {
-        let mut next = readers.first_copy(point);
+        let mut next = runs.first_copy(point);
         for _copy in 0..usize::MAX {
             let Some(copy) = next else {
                 return;
             };
-            next = readers.next_copy(copy);
-            self.spread_from(scene, readers, copy, terns);
+            next = runs.next_copy(copy);
+            self.spread_from(scene, runs, copy, terns);
         }
     }
 
     // The same of the runs that may read a point under its own number.
-    fn spread_from(&mut self, scene: &Scene, readers: &Readers, point: u32, terns: &mut [Tern])
+    fn spread_from(&mut self, scene: &Scene, runs: &Runs, point: u32, terns: &mut [Tern])
         requires ready { IsReady (scene_of scene.now) terns.old }
         requires spread { IsSpread scene.now.network.now.trees.items (length scene.now.leads.now) (seen terns.old scene.now.leads.now) self.old }
         ensures spread { IsSpread scene.now.network.now.trees.items (length scene.now.leads.now) (seen terns.new scene.now.leads.now) self.new }
         ensures further { IsFurther (scene_of scene.now) terns.old terns.new }
     {
-        let mut next = readers.first_run_note(point);
+        let mut next = runs.first_note(point);
         for _note in 0..usize::MAX {
-            let Some(note) = next else {
+            let Some((number, behind)) = run_of(runs, next) else {
                 return;
             };
-            next = readers.next_run_note(note);
-            self.spread_by(scene, readers, note, point, terns);
+            next = behind;
+            self.spread_by(scene, runs, number, point, terns);
         }
     }
 
-    // The same of the run of a note.
+    // The same of one of these runs.
     fn spread_by(
         &mut self,
         scene: &Scene,
-        readers: &Readers,
-        note: u32,
+        runs: &Runs,
+        number: usize,
         point: u32,
         terns: &mut [Tern],
     )
@@ -207,24 +194,21 @@ impl Spread {
         ensures spread { IsSpread scene.now.network.now.trees.items (length scene.now.leads.now) (seen terns.new scene.now.leads.now) self.new }
         ensures further { IsFurther (scene_of scene.now) terns.old terns.new }
     {
-        let Some(number) = readers.run_of(note) else {
-            return;
-        };
-        if number >= self.runs.len() {
+        if number >= self.values.len() {
             return;
         }
         self.renew_run(scene, number, point, terns);
-        if self.has_new_gate(scene, readers, number) {
-            self.look_at_all(scene, readers, number, terns);
+        if self.has_new_gate(scene, runs, number) {
+            self.look_at_all(scene, runs, number, terns);
         } else {
-            self.look_at_new(scene, readers, number, terns);
+            self.look_at_new(scene, runs, number, terns);
         }
     }
 
     // What is known of the expressions of a run by one more point is found.
     fn renew_run(&mut self, scene: &Scene, number: usize, point: u32, terns: &[Tern])
         requires ready { IsReady (scene_of scene.now) terns.now }
-        requires within { number < length self.old.runs.items }
+        requires within { number < length self.old.values.items }
         requires spread { IsSpread scene.now.network.now.trees.items (length scene.now.leads.now) (seen terns.now scene.now.leads.now) self.old }
         ensures { IsSpread scene.now.network.now.trees.items (length scene.now.leads.now) (seen terns.now scene.now.leads.now) self.new }
     {
@@ -232,12 +216,12 @@ impl Spread {
             terns,
             leads: scene.leads,
         };
-        self.runs[number].renew(&scene.network.trees, &view, point);
+        self.values[number].renew(&scene.network.trees, &view, point);
     }
 
     // Whether the gate of a run may have come to be known when its values were renewed.
-    fn has_new_gate(&self, scene: &Scene, readers: &Readers, number: usize) -> bool {
-        let (Some(run), Some(values)) = (readers.run(number), self.runs.get(number)) else {
+    fn has_new_gate(&self, scene: &Scene, runs: &Runs, number: usize) -> bool {
+        let (Some(run), Some(values)) = (runs.run(number), self.values.get(number)) else {
             return false;
         };
         match scene.network.drives.get(run.first as usize) {
@@ -247,22 +231,22 @@ impl Spread {
     }
 
     // Looks at all points of a run.
-    fn look_at_all(&mut self, scene: &Scene, readers: &Readers, number: usize, terns: &mut [Tern])
+    fn look_at_all(&mut self, scene: &Scene, runs: &Runs, number: usize, terns: &mut [Tern])
         requires ready { IsReady (scene_of scene.now) terns.old }
         requires spread { IsSpread scene.now.network.now.trees.items (length scene.now.leads.now) (seen terns.old scene.now.leads.now) self.old }
         ensures spread { IsSpread scene.now.network.now.trees.items (length scene.now.leads.now) (seen terns.new scene.now.leads.now) self.new }
         ensures further { IsFurther (scene_of scene.now) terns.old terns.new }
     {
-        let Some(run) = readers.run(number) else {
+        let Some(run) = runs.run(number) else {
             return;
         };
         for nth in 0..run.count {
-            self.look(scene, readers, number, run.first.saturating_add(nth), terns);
+            self.look(scene, runs, number, run.first.saturating_add(nth), terns);
         }
     }
 
     // Looks at the points of a run that show the bits that may have come to be known when its values were renewed.
-    fn look_at_new(&mut self, scene: &Scene, readers: &Readers, number: usize, terns: &mut [Tern])
+    fn look_at_new(&mut self, scene: &Scene, runs: &Runs, number: usize, terns: &mut [Tern])
         requires ready { IsReady (scene_of scene.now) terns.old }
         requires spread { IsSpread scene.now.network.now.trees.items (length scene.now.leads.now) (seen terns.old scene.now.leads.now) self.old }
         ensures spread { IsSpread scene.now.network.now.trees.items (length scene.now.leads.now) (seen terns.new scene.now.leads.now) self.new }
@@ -272,20 +256,20 @@ impl Spread {
             let Some(bit) = self.renewed_bit(number, nth) else {
                 return;
             };
-            self.look_at_bit(scene, readers, number, bit, terns);
+            self.look_at_bit(scene, runs, number, bit, terns);
         }
     }
 
     // One of those bits, by its number among them.
     fn renewed_bit(&self, number: usize, nth: usize) -> Option<u32> {
-        self.runs.get(number)?.renewed_bit(nth)
+        self.values.get(number)?.renewed_bit(nth)
     }
 
     // Looks at the point of a run that shows this bit, if one does.
     fn look_at_bit(
         &mut self,
         scene: &Scene,
-        readers: &Readers,
+        runs: &Runs,
         number: usize,
         bit: u32,
         terns: &mut [Tern],
@@ -295,44 +279,42 @@ impl Spread {
         ensures spread { IsSpread scene.now.network.now.trees.items (length scene.now.leads.now) (seen terns.new scene.now.leads.now) self.new }
         ensures further { IsFurther (scene_of scene.now) terns.old terns.new }
     {
-        let Some(run) = readers.run(number) else {
+        let Some(run) = runs.run(number) else {
             return;
         };
         if let Some(point) = point_of_bit(scene.network, run, bit) {
-            self.look(scene, readers, number, point, terns);
+            self.look(scene, runs, number, point, terns);
         }
     }
 
     // Looks at a point of a run by what is kept of its expressions.
-    fn look(
-        &mut self,
-        scene: &Scene,
-        readers: &Readers,
-        number: usize,
-        point: u32,
-        terns: &mut [Tern],
-    )
+    fn look(&mut self, scene: &Scene, runs: &Runs, number: usize, point: u32, terns: &mut [Tern])
         requires ready { IsReady (scene_of scene.now) terns.old }
         requires spread { IsSpread scene.now.network.now.trees.items (length scene.now.leads.now) (seen terns.old scene.now.leads.now) self.old }
         ensures spread { IsSpread scene.now.network.now.trees.items (length scene.now.leads.now) (seen terns.new scene.now.leads.now) self.new }
         ensures further { IsFurther (scene_of scene.now) terns.old terns.new }
     {
-        let Some(place) = readers.place_of(point) else {
+        let Some(place) = runs.place_of(point) else {
             return;
         };
-        if number >= self.runs.len() || scene.order.get(place).copied() != Some(point) {
+        if number >= self.values.len() || scene.order.get(place).copied() != Some(point) {
             return;
         }
-        let visit = look_within(scene, &self.runs[number], place, terns);
+        let visit = look_within(scene, &self.values[number], place, terns);
         self.note_found(point, visit);
     }
 }
 
+// The run of a note, and the next note, if there is one.
+fn run_of(runs: &Runs, note: Option<u32>) -> Option<(usize, Option<u32>)> {
+    runs.noted(note?)
+}
+
 // Whether a point of a run that stands for itself is open.
-fn has_open_point(readers: &Readers, run: Run, terns: &[Tern]) -> bool {
+fn has_open_point(runs: &Runs, run: Run, terns: &[Tern]) -> bool {
     for nth in 0..run.count {
         let point = run.first.saturating_add(nth);
-        if let (Some(Tern::Open), Some(_)) = (terns.get(point as usize), readers.place_of(point)) {
+        if let (Some(Tern::Open), Some(_)) = (terns.get(point as usize), runs.place_of(point)) {
             return true;
         }
     }

@@ -21,4 +21,4 @@ returns-clause-spread c =
     let scene : Scene = scene_of c.args.scene.now in
     let new = c.look_at-found.new.terns in
     subst (λ (runs : List RunValues). All (IsKeptOfRun scene.trees (length scene.leads) (seen new scene.leads)) runs) (sym c.note_found.ensures)
-    (runs_rise scene.trees scene.leads c.args.terns.now new (further c).rising c.args.spread.now.runs.items c.requires.spread)
+    (runs_rise scene.trees scene.leads c.args.terns.now new (further c).rising c.args.spread.now.values.items c.requires.spread)
