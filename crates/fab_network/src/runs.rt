@@ -188,8 +188,9 @@ impl Runs {
             ranges_of(tree, source.first as usize, &mut self.ranges)?;
         }
         for place in 0..self.ranges.len() {
-            let range = self.ranges[place];
-            self.note_range(range, number)?;
+            if let Some(range) = self.ranges.get(place).copied() {
+                self.note_range(range, number)?;
+            }
         }
         Ok(())
     }

@@ -7,8 +7,8 @@ use Rattle.fab_network.proofs.Growing.{ready_after}
 use Rattle.fab_network.proofs.Passing.{both_further}
 use Rattle.fab_network.proofs.passes.look_again.Goals as goal
 
-pub begin-requires-clause-spread : goal.begin-requires-clause-spread
-begin-requires-clause-spread c =
+pub begin-requires-2-clause-spread : goal.begin-requires-2-clause-spread
+begin-requires-2-clause-spread c =
     let scene : Scene = scene_of c.args.scene.now in
     c.new-spread.ensures scene.trees (length scene.leads) (seen c.args.terns.now scene.leads)
 

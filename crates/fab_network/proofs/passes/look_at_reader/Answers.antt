@@ -11,7 +11,7 @@ use Rattle.fab_network.proofs.passes.look_at_reader.Goals as goal
 further : (c : goal.After-note_found) → IsFurther (scene_of c.args.scene.now) c.args.terns.now c.look_at-found.new.terns
 further c =
     visit_further (scene_of c.args.scene.now) c.requires.ready.fit c.requires.ready.points c.requires.ready.own c.args.place c.args.terns.now c.requires.ready.backed
-    c.if-place-order.false c.requires.ready.long true c.look_at-found.new.terns c.look_at-found.result c.look_at-found.ensures.visit
+    c.if-place-scene.false c.requires.ready.long true c.look_at-found.new.terns c.look_at-found.result c.look_at-found.ensures.visit
 
 pub returns-clause-further : goal.returns-clause-further
 returns-clause-further c = further c

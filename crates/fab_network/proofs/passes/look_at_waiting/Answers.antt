@@ -28,3 +28,7 @@ look_on-requires-clause-forms c =
     let scene : Scene = scene_of c.args.scene.now in
     forms_stay scene.trees scene.drives scene.order scene.leads c.args.terns.now c.loop-step.terns c.args.scene.now.forms.now
     c.loop-step.invariant.further.others c.requires.forms
+
+pub returns-then-not-look_on-clause-further : goal.returns-then-not-look_on-clause-further
+returns-then-not-look_on-clause-further c =
+    both_further (scene_of c.args.scene.now) c.args.terns.now c.loop-step.terns c.look_on.new.terns c.loop-step.invariant.further c.look_on.ensures.further

@@ -33,5 +33,5 @@ returns c =
       made = k.made;
       begins = k.begins;
       inside = k.inside;
-      kept = subst (λ (x : Tree). AreKept at x c.renew.new.self) (sym one) c.renew.ensures;
+      kept = subst (λ (x : Tree). AreKept at x c.renew.new.self) (sym one) c.renew.ensures.kept;
     }
