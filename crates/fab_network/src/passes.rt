@@ -9,8 +9,8 @@ ghost use Rattle.fab_compiled.specs.Terns.{seen, IsView};
 ghost use Rattle.fab_network.specs.Forms.{HasForms};
 ghost use Rattle.fab_network.specs.Network.{shown_tern, AreFit};
 ghost use Rattle.fab_network.specs.Passes.{changed_after, kept_tern, unsettled_after, AreBacked, AreOwn, AreRising, AreSolved, IsFurther, IsListed, IsPassed, IsVisit, StaysBelow};
-ghost use Rattle.fab_network.specs.Scenes.{scene_of, AreFormsOf, IsReady};
-ghost use Rattle.fab_network.specs.Sharing.{AreShared, IsSpread};
+ghost use Rattle.fab_network.specs.Scenes.{scene_of, AreFormsOf, AreSharedOver, IsReady, IsSpreadOver};
+ghost use Rattle.fab_network.specs.Sharing.{AreShared};
 
 use crate::forms::{Form, shown_by_form};
 use crate::network::{Network, shown, shown_meanwhile};
@@ -157,8 +157,8 @@ fn look_at(
     requires ready { IsReady (scene_of scene.now) terns.old }
     requires within { place < length scene.now.order.now }
     requires forms { AreFormsOf scene.now terns.old }
-    requires shared { AreShared scene.now.network.now.trees.items (length scene.now.leads.now) (seen terns.old scene.now.leads.now) shared.old }
-    ensures shared { AreShared scene.now.network.now.trees.items (length scene.now.leads.now) (seen terns.new scene.now.leads.now) shared.new }
+    requires shared { AreSharedOver scene.now terns.old shared.old }
+    ensures shared { AreSharedOver scene.now terns.new shared.new }
     ensures visit { IsVisit (scene_of scene.now) waits (slice_index scene.now.order.now place) terns.old terns.new result }
 {
     let point = scene.order[place] as usize;
@@ -279,10 +279,10 @@ fn look_at_waiting(
 )
     requires ready { IsReady (scene_of scene.now) terns.old }
     requires forms { AreFormsOf scene.now terns.old }
-    requires shared { AreShared scene.now.network.now.trees.items (length scene.now.leads.now) (seen terns.old scene.now.leads.now) shared.old }
-    requires spread { IsSpread scene.now.network.now.trees.items (length scene.now.leads.now) (seen terns.old scene.now.leads.now) spread.old }
-    ensures shared { AreShared scene.now.network.now.trees.items (length scene.now.leads.now) (seen terns.new scene.now.leads.now) shared.new }
-    ensures spread { IsSpread scene.now.network.now.trees.items (length scene.now.leads.now) (seen terns.new scene.now.leads.now) spread.new }
+    requires shared { AreSharedOver scene.now terns.old shared.old }
+    requires spread { IsSpreadOver scene.now terns.old spread.old }
+    ensures shared { AreSharedOver scene.now terns.new shared.new }
+    ensures spread { IsSpreadOver scene.now terns.new spread.new }
     ensures further { IsFurther (scene_of scene.now) terns.old terns.new }
 {
     for _step in 0..usize::MAX {
@@ -303,10 +303,10 @@ fn look_on(
 ) -> bool
     requires ready { IsReady (scene_of scene.now) terns.old }
     requires forms { AreFormsOf scene.now terns.old }
-    requires shared { AreShared scene.now.network.now.trees.items (length scene.now.leads.now) (seen terns.old scene.now.leads.now) shared.old }
-    requires spread { IsSpread scene.now.network.now.trees.items (length scene.now.leads.now) (seen terns.old scene.now.leads.now) spread.old }
-    ensures shared { AreShared scene.now.network.now.trees.items (length scene.now.leads.now) (seen terns.new scene.now.leads.now) shared.new }
-    ensures spread { IsSpread scene.now.network.now.trees.items (length scene.now.leads.now) (seen terns.new scene.now.leads.now) spread.new }
+    requires shared { AreSharedOver scene.now terns.old shared.old }
+    requires spread { IsSpreadOver scene.now terns.old spread.old }
+    ensures shared { AreSharedOver scene.now terns.new shared.new }
+    ensures spread { IsSpreadOver scene.now terns.new spread.new }
     ensures further { IsFurther (scene_of scene.now) terns.old terns.new }
 {
     if let Some(point) = spread.next_found() {
@@ -332,10 +332,10 @@ fn look_at_reader(
 )
     requires ready { IsReady (scene_of scene.now) terns.old }
     requires forms { AreFormsOf scene.now terns.old }
-    requires shared { AreShared scene.now.network.now.trees.items (length scene.now.leads.now) (seen terns.old scene.now.leads.now) shared.old }
-    requires spread { IsSpread scene.now.network.now.trees.items (length scene.now.leads.now) (seen terns.old scene.now.leads.now) spread.old }
-    ensures shared { AreShared scene.now.network.now.trees.items (length scene.now.leads.now) (seen terns.new scene.now.leads.now) shared.new }
-    ensures spread { IsSpread scene.now.network.now.trees.items (length scene.now.leads.now) (seen terns.new scene.now.leads.now) spread.new }
+    requires shared { AreSharedOver scene.now terns.old shared.old }
+    requires spread { IsSpreadOver scene.now terns.old spread.old }
+    ensures shared { AreSharedOver scene.now terns.new shared.new }
+    ensures spread { IsSpreadOver scene.now terns.new spread.new }
     ensures further { IsFurther (scene_of scene.now) terns.old terns.new }
 {
     if place >= scene.order.len() {

@@ -6,7 +6,7 @@ ghost use Rattle.fab_compiled.specs.Leading.{PointTerns};
 ghost use Rattle.fab_compiled.specs.Terns.{seen, IsView};
 ghost use Rattle.fab_network.specs.Network.{IsFitDrive, IsFitSource};
 ghost use Rattle.fab_network.specs.Passes.{IsFurther, IsVisit};
-ghost use Rattle.fab_network.specs.Scenes.{scene_of, IsReady};
+ghost use Rattle.fab_network.specs.Scenes.{scene_of, IsKeptOver, IsReady, IsSpreadOver};
 ghost use Rattle.fab_network.specs.Sharing.{IsKeptOfRun, IsKeptWithin, IsSpread};
 
 use crate::network::{Drive, Network, Source};
@@ -48,8 +48,8 @@ impl Spread {
     /// Finds the values of each run that has an open point, and looks at the points of these runs.
     pub(crate) fn begin(&mut self, scene: &Scene, runs: &Runs, terns: &mut [Tern])
         requires ready { IsReady (scene_of scene.now) terns.old }
-        requires spread { IsSpread scene.now.network.now.trees.items (length scene.now.leads.now) (seen terns.old scene.now.leads.now) self.old }
-        ensures spread { IsSpread scene.now.network.now.trees.items (length scene.now.leads.now) (seen terns.new scene.now.leads.now) self.new }
+        requires spread { IsSpreadOver scene.now terns.old self.old }
+        ensures spread { IsSpreadOver scene.now terns.new self.new }
         ensures further { IsFurther (scene_of scene.now) terns.old terns.new }
     {
         for number in 0..usize::MAX {
@@ -66,8 +66,8 @@ impl Spread {
     // Finds the values of the next run. Told is whether there was memory to keep it.
     fn add_run(&mut self, scene: &Scene, runs: &Runs, run: Run, terns: &[Tern]) -> bool
         requires ready { IsReady (scene_of scene.now) terns.now }
-        requires spread { IsSpread scene.now.network.now.trees.items (length scene.now.leads.now) (seen terns.now scene.now.leads.now) self.old }
-        ensures { IsSpread scene.now.network.now.trees.items (length scene.now.leads.now) (seen terns.now scene.now.leads.now) self.new }
+        requires spread { IsSpreadOver scene.now terns.now self.old }
+        ensures { IsSpreadOver scene.now terns.now self.new }
     {
         let values = self.values_of_run(scene, runs, run, terns);
         self.values.push(values).is_ok()
@@ -77,7 +77,7 @@ impl Spread {
     fn values_of_run(&mut self, scene: &Scene, runs: &Runs, run: Run, terns: &[Tern]) -> RunValues
         requires ready { IsReady (scene_of scene.now) terns.now }
         ensures values { self.new.values.items ≡ self.old.values.items }
-        ensures kept { IsKeptOfRun scene.now.network.now.trees.items (length scene.now.leads.now) (seen terns.now scene.now.leads.now) result }
+        ensures kept { IsKeptOver scene.now terns.now result }
     {
         if !has_open_point(runs, run, terns) {
             return RunValues::none();
@@ -149,8 +149,8 @@ impl Spread {
     /// A point has come to be known: what the runs show by that is found. What is read is the point itself, or one that is led to it.
     pub(crate) fn spread(&mut self, scene: &Scene, runs: &Runs, point: u32, terns: &mut [Tern])
         requires ready { IsReady (scene_of scene.now) terns.old }
-        requires spread { IsSpread scene.now.network.now.trees.items (length scene.now.leads.now) (seen terns.old scene.now.leads.now) self.old }
-        ensures spread { IsSpread scene.now.network.now.trees.items (length scene.now.leads.now) (seen terns.new scene.now.leads.now) self.new }
+        requires spread { IsSpreadOver scene.now terns.old self.old }
+        ensures spread { IsSpreadOver scene.now terns.new self.new }
         ensures further { IsFurther (scene_of scene.now) terns.old terns.new }
     {
         let mut next = runs.first_copy(point);
@@ -166,8 +166,8 @@ impl Spread {
     // The same of the runs that may read a point under its own number.
     fn spread_from(&mut self, scene: &Scene, runs: &Runs, point: u32, terns: &mut [Tern])
         requires ready { IsReady (scene_of scene.now) terns.old }
-        requires spread { IsSpread scene.now.network.now.trees.items (length scene.now.leads.now) (seen terns.old scene.now.leads.now) self.old }
-        ensures spread { IsSpread scene.now.network.now.trees.items (length scene.now.leads.now) (seen terns.new scene.now.leads.now) self.new }
+        requires spread { IsSpreadOver scene.now terns.old self.old }
+        ensures spread { IsSpreadOver scene.now terns.new self.new }
         ensures further { IsFurther (scene_of scene.now) terns.old terns.new }
     {
         let mut next = runs.first_note(point);
@@ -190,8 +190,8 @@ impl Spread {
         terns: &mut [Tern],
     )
         requires ready { IsReady (scene_of scene.now) terns.old }
-        requires spread { IsSpread scene.now.network.now.trees.items (length scene.now.leads.now) (seen terns.old scene.now.leads.now) self.old }
-        ensures spread { IsSpread scene.now.network.now.trees.items (length scene.now.leads.now) (seen terns.new scene.now.leads.now) self.new }
+        requires spread { IsSpreadOver scene.now terns.old self.old }
+        ensures spread { IsSpreadOver scene.now terns.new self.new }
         ensures further { IsFurther (scene_of scene.now) terns.old terns.new }
     {
         if number >= self.values.len() {
@@ -209,8 +209,8 @@ impl Spread {
     fn renew_run(&mut self, scene: &Scene, number: usize, point: u32, terns: &[Tern])
         requires ready { IsReady (scene_of scene.now) terns.now }
         requires within { number < length self.old.values.items }
-        requires spread { IsSpread scene.now.network.now.trees.items (length scene.now.leads.now) (seen terns.now scene.now.leads.now) self.old }
-        ensures { IsSpread scene.now.network.now.trees.items (length scene.now.leads.now) (seen terns.now scene.now.leads.now) self.new }
+        requires spread { IsSpreadOver scene.now terns.now self.old }
+        ensures { IsSpreadOver scene.now terns.now self.new }
     {
         let view = View {
             terns,
@@ -233,8 +233,8 @@ impl Spread {
     // Looks at all points of a run.
     fn look_at_all(&mut self, scene: &Scene, runs: &Runs, number: usize, terns: &mut [Tern])
         requires ready { IsReady (scene_of scene.now) terns.old }
-        requires spread { IsSpread scene.now.network.now.trees.items (length scene.now.leads.now) (seen terns.old scene.now.leads.now) self.old }
-        ensures spread { IsSpread scene.now.network.now.trees.items (length scene.now.leads.now) (seen terns.new scene.now.leads.now) self.new }
+        requires spread { IsSpreadOver scene.now terns.old self.old }
+        ensures spread { IsSpreadOver scene.now terns.new self.new }
         ensures further { IsFurther (scene_of scene.now) terns.old terns.new }
     {
         let Some(run) = runs.run(number) else {
@@ -248,8 +248,8 @@ impl Spread {
     // Looks at the points of a run that show the bits that may have come to be known when its values were renewed.
     fn look_at_new(&mut self, scene: &Scene, runs: &Runs, number: usize, terns: &mut [Tern])
         requires ready { IsReady (scene_of scene.now) terns.old }
-        requires spread { IsSpread scene.now.network.now.trees.items (length scene.now.leads.now) (seen terns.old scene.now.leads.now) self.old }
-        ensures spread { IsSpread scene.now.network.now.trees.items (length scene.now.leads.now) (seen terns.new scene.now.leads.now) self.new }
+        requires spread { IsSpreadOver scene.now terns.old self.old }
+        ensures spread { IsSpreadOver scene.now terns.new self.new }
         ensures further { IsFurther (scene_of scene.now) terns.old terns.new }
     {
         for nth in 0..usize::MAX {
@@ -275,8 +275,8 @@ impl Spread {
         terns: &mut [Tern],
     )
         requires ready { IsReady (scene_of scene.now) terns.old }
-        requires spread { IsSpread scene.now.network.now.trees.items (length scene.now.leads.now) (seen terns.old scene.now.leads.now) self.old }
-        ensures spread { IsSpread scene.now.network.now.trees.items (length scene.now.leads.now) (seen terns.new scene.now.leads.now) self.new }
+        requires spread { IsSpreadOver scene.now terns.old self.old }
+        ensures spread { IsSpreadOver scene.now terns.new self.new }
         ensures further { IsFurther (scene_of scene.now) terns.old terns.new }
     {
         let Some(run) = runs.run(number) else {
@@ -290,8 +290,8 @@ impl Spread {
     // Looks at a point of a run by what is kept of its expressions.
     fn look(&mut self, scene: &Scene, runs: &Runs, number: usize, point: u32, terns: &mut [Tern])
         requires ready { IsReady (scene_of scene.now) terns.old }
-        requires spread { IsSpread scene.now.network.now.trees.items (length scene.now.leads.now) (seen terns.old scene.now.leads.now) self.old }
-        ensures spread { IsSpread scene.now.network.now.trees.items (length scene.now.leads.now) (seen terns.new scene.now.leads.now) self.new }
+        requires spread { IsSpreadOver scene.now terns.old self.old }
+        ensures spread { IsSpreadOver scene.now terns.new self.new }
         ensures further { IsFurther (scene_of scene.now) terns.old terns.new }
     {
         let Some(place) = runs.place_of(point) else {
@@ -338,7 +338,7 @@ fn point_of_bit(network: &Network, run: Run, bit: u32) -> Option<u32> {
 fn look_within(scene: &Scene, values: &RunValues, place: usize, terns: &mut [Tern]) -> Visit
     requires ready { IsReady (scene_of scene.now) terns.old }
     requires within { place < length scene.now.order.now }
-    requires kept { IsKeptOfRun scene.now.network.now.trees.items (length scene.now.leads.now) (seen terns.old scene.now.leads.now) values.now }
+    requires kept { IsKeptOver scene.now terns.old values.now }
     ensures { IsVisit (scene_of scene.now) true (slice_index scene.now.order.now place) terns.old terns.new result }
 {
     let point = scene.order[place] as usize;
