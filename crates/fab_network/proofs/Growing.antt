@@ -1,5 +1,5 @@
 -- What is kept of the nodes of expressions stays right as points come to be known.
-use Rattle.std.proofs.Common.{◌≡◌, ℕ, ◌+◌, ◌-◌, ◌<◌, List, length, Option, None, Some, All, IfSome, ◌∙◌, subst, sym, ap, arith, slice_index}
+use Rattle.std.proofs.Common.{ℕ, ◌+◌, ◌-◌, ◌<◌, List, length, Option, None, Some, All, IfSome, ◌∙◌, arith, slice_index}
 use Rattle.std.proofs.lemmas.List.Elements.{All-weaker}
 use Rattle.fab_systems_laws.specs.Ternary.{IsBelow}
 use Rattle.fab_ternary.specs.declared.Tern.{Tern}
@@ -8,11 +8,10 @@ use Rattle.fab_compiled.specs.Leading.{PointTerns}
 use Rattle.fab_compiled.specs.Terns.{seen}
 use Rattle.fab_nodes.proofs.NodesGrow.{kept_grows}
 use Rattle.fab_network.specs.declared.run_values.RunValues.{RunValues}
-use Rattle.fab_network.specs.declared.spreading.Spread.{Spread}
 use Rattle.fab_network.specs.declared.within.Within.{Within}
 use Rattle.fab_network.specs.Passes.{AreRising, IsFurther, Scene}
 use Rattle.fab_network.specs.Scenes.{IsReady}
-use Rattle.fab_network.specs.Sharing.{IsKeptOfRun, IsKeptWithin, IsSpread}
+use Rattle.fab_network.specs.Sharing.{IsKeptOfRun, IsKeptWithin}
 
 module _ (trees : List Tree) (count : ℕ) (t u : PointTerns) (grow : (point : ℕ) → point < count → IsBelow (t point) (u point)) where
   -- what is kept within an expression stays right where more is known

@@ -50,5 +50,6 @@ module _ (scene : Scene) (terns : List Tern) (ready : IsReady scene terns) (plac
             found,
             refl,
             known,
-            known_below (plain_tern found) (shows_now scene terns point) known (subst (λ (h : PlainTern). IsBelow (plain_tern found) (shown h)) held_there below),
+            known_below (plain_tern found) (shows_now scene terns point) known
+                (subst (λ (h : PlainTern). IsBelow (plain_tern found) (shown h)) held_there below),
           )

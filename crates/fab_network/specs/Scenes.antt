@@ -1,5 +1,5 @@
 -- What holds of points while they come to be known.
-use Rattle.std.specs.Prelude.{◌≡◌, ℕ, ◌≤◌, ◌^◌, List, length}
+use Rattle.std.specs.Prelude.{◌≡◌, ◌≤◌, ◌^◌, List, length}
 use Rattle.fab_ternary.specs.declared.Tern.{Tern}
 use Rattle.fab_compiled.specs.Terns.{seen, IsView}
 use Rattle.fab_network.specs.declared.run_values.RunValues.{RunValues}

@@ -13,7 +13,8 @@ begin-requires-2-clause-spread c =
     c.new-spread.ensures scene.trees (length scene.leads) (seen c.args.terns.now scene.leads)
 
 pub look_at_waiting-requires-clause-ready : goal.look_at_waiting-requires-clause-ready
-look_at_waiting-requires-clause-ready c = ready_after (scene_of c.args.scene.now) c.args.terns.now c.begin-2.new.terns c.requires.ready c.begin-2.ensures.further
+look_at_waiting-requires-clause-ready c =
+    ready_after (scene_of c.args.scene.now) c.args.terns.now c.begin-2.new.terns c.requires.ready c.begin-2.ensures.further
 
 pub look_at_waiting-requires-clause-forms : goal.look_at_waiting-requires-clause-forms
 look_at_waiting-requires-clause-forms c =
@@ -28,4 +29,5 @@ look_at_waiting-requires-clause-shared c =
 
 pub returns : goal.returns
 returns c =
-    both_further (scene_of c.args.scene.now) c.args.terns.now c.begin-2.new.terns c.look_at_waiting.new.terns c.begin-2.ensures.further c.look_at_waiting.ensures.further
+    both_further (scene_of c.args.scene.now) c.args.terns.now c.begin-2.new.terns c.look_at_waiting.new.terns c.begin-2.ensures.further
+    c.look_at_waiting.ensures.further

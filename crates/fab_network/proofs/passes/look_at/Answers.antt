@@ -19,10 +19,10 @@ returns-clause-shared c =
 
 pub returns-then-is_open-clause-visit : goal.returns-then-is_open-clause-visit
 returns-then-is_open-clause-visit c =
-    visit_still (scene_of c.args.scene.now) c.args.terns.now c.requires.ready c.args.place c.requires.within c.is_open.result c.is_open.ensures c.if-not-is_open.false
-    c.look_for-found.result c.is_open-2.result c.is_open-2.ensures c.args.waits c.if-is_open.true c.look_for-found.ensures.value
+    visit_still (scene_of c.args.scene.now) c.args.terns.now c.requires.ready c.args.place c.requires.within c.is_open.result c.is_open.ensures
+    c.if-not-is_open.false c.look_for-found.result c.is_open-2.result c.is_open-2.ensures c.args.waits c.if-is_open.true c.look_for-found.ensures.value
 
 pub returns-clause-visit : goal.returns-clause-visit
 returns-clause-visit c =
-    visit_found (scene_of c.args.scene.now) c.args.terns.now c.requires.ready c.args.place c.requires.within c.is_open.result c.is_open.ensures c.if-not-is_open.false
-    c.look_for-found.result c.is_open-2.result c.is_open-2.ensures c.args.waits c.if-is_open.false c.look_for-found.ensures.below
+    visit_found (scene_of c.args.scene.now) c.args.terns.now c.requires.ready c.args.place c.requires.within c.is_open.result c.is_open.ensures
+    c.if-not-is_open.false c.look_for-found.result c.is_open-2.result c.is_open-2.ensures c.args.waits c.if-is_open.false c.look_for-found.ensures.below

@@ -10,8 +10,9 @@ use Rattle.fab_network.proofs.passes.look_at_reader.Goals as goal
 
 further : (c : goal.After-note_found) → IsFurther (scene_of c.args.scene.now) c.args.terns.now c.look_at-found.new.terns
 further c =
-    visit_further (scene_of c.args.scene.now) c.requires.ready.fit c.requires.ready.points c.requires.ready.own c.args.place c.args.terns.now c.requires.ready.backed
-    c.if-place-scene.false c.requires.ready.long true c.look_at-found.new.terns c.look_at-found.result c.look_at-found.ensures.visit
+    let ready = c.requires.ready in
+    visit_further (scene_of c.args.scene.now) ready.fit ready.points ready.own c.args.place c.args.terns.now ready.backed c.if-place-scene.false ready.long true
+    c.look_at-found.new.terns c.look_at-found.result c.look_at-found.ensures.visit
 
 pub returns-clause-further : goal.returns-clause-further
 returns-clause-further c = further c

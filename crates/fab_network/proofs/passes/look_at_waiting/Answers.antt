@@ -14,7 +14,8 @@ loop-step-init c = record {
 
 pub loop-step-preserved : goal.loop-step-preserved
 loop-step-preserved c = record {
-  further = both_further (scene_of c.args.scene.now) c.args.terns.now c.loop-step.terns c.look_on.new.terns c.loop-step.invariant.further c.look_on.ensures.further;
+  further = both_further (scene_of c.args.scene.now) c.args.terns.now c.loop-step.terns c.look_on.new.terns
+      c.loop-step.invariant.further c.look_on.ensures.further;
   shared = c.look_on.ensures.shared;
   spread = c.look_on.ensures.spread;
 }
@@ -31,4 +32,5 @@ look_on-requires-clause-forms c =
 
 pub returns-then-not-look_on-clause-further : goal.returns-then-not-look_on-clause-further
 returns-then-not-look_on-clause-further c =
-    both_further (scene_of c.args.scene.now) c.args.terns.now c.loop-step.terns c.look_on.new.terns c.loop-step.invariant.further c.look_on.ensures.further
+    both_further (scene_of c.args.scene.now) c.args.terns.now c.loop-step.terns c.look_on.new.terns c.loop-step.invariant.further
+    c.look_on.ensures.further

@@ -1,4 +1,4 @@
-use Rattle.std.proofs.Common.{◌∙◌, length, arith}
+use Rattle.std.proofs.Common.{◌∙◌, arith}
 use Rattle.fab_systems_laws.proofs.Order.{below_trans}
 use Rattle.fab_network.specs.Passes.{kept_tern, Scene, IsFurther}
 use Rattle.fab_network.specs.Scenes.{IsReady}
@@ -26,7 +26,13 @@ pass_over-pass-requires-clause-forms c =
 
 pub look_again-requires-clause-ready : goal.look_again-requires-clause-ready
 look_again-requires-clause-ready c =
-    let scene : Scene = record { trees = c.args.network.now.trees.items; drives = c.args.network.now.drives.items; held = c.args.held.now; order = c.args.order.now; leads = c.args.leads.now } in
+    let scene : Scene = record {
+      trees = c.args.network.now.trees.items;
+      drives = c.args.network.now.drives.items;
+      held = c.args.held.now;
+      order = c.args.order.now;
+      leads = c.args.leads.now;
+    } in
     let ready : IsReady scene c.passes.terns = record {
       fit = c.requires.fit;
       points = c.requires.points;
@@ -49,7 +55,13 @@ returns-then-not-pass-clause-below c t solved led above = c.pass_over-pass.ensur
 
 pub passes-preserved : goal.passes-preserved
 passes-preserved c =
-    let scene : Scene = record { trees = c.args.network.now.trees.items; drives = c.args.network.now.drives.items; held = c.args.held.now; order = c.args.order.now; leads = c.args.leads.now } in
+    let scene : Scene = record {
+      trees = c.args.network.now.trees.items;
+      drives = c.args.network.now.drives.items;
+      held = c.args.held.now;
+      order = c.args.order.now;
+      leads = c.args.leads.now;
+    } in
     let now = c.passes.terns in
     let new = c.look_again.new.terns in
     let further : IsFurther scene now new = both_further scene now c.pass_over-pass.new.terns new c.pass_over-pass.ensures.further c.look_again.ensures in

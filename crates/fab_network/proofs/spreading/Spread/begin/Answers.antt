@@ -11,7 +11,8 @@ loop-number-init c = record {
 
 pub loop-number-preserved : goal.loop-number-preserved
 loop-number-preserved c = record {
-  further = both_further (scene_of c.args.scene.now) c.args.terns.now c.loop-number.terns c.look_at_all.new.terns c.loop-number.invariant.further c.look_at_all.ensures.further;
+  further = both_further (scene_of c.args.scene.now) c.args.terns.now c.loop-number.terns c.look_at_all.new.terns
+      c.loop-number.invariant.further c.look_at_all.ensures.further;
   spread = c.look_at_all.ensures.spread;
 }
 

@@ -11,7 +11,8 @@ loop-nth-init c = record {
 
 pub loop-nth-preserved : goal.loop-nth-preserved
 loop-nth-preserved c = record {
-  further = both_further (scene_of c.args.scene.now) c.args.terns.now c.loop-nth.terns c.look_at_bit.new.terns c.loop-nth.invariant.further c.look_at_bit.ensures.further;
+  further = both_further (scene_of c.args.scene.now) c.args.terns.now c.loop-nth.terns c.look_at_bit.new.terns
+      c.loop-nth.invariant.further c.look_at_bit.ensures.further;
   spread = c.look_at_bit.ensures.spread;
 }
 

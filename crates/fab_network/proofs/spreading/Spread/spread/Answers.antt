@@ -11,7 +11,8 @@ loop-copy-init c = record {
 
 pub loop-copy-preserved : goal.loop-copy-preserved
 loop-copy-preserved c = record {
-  further = both_further (scene_of c.args.scene.now) c.args.terns.now c.loop-copy.terns c.spread_from.new.terns c.loop-copy.invariant.further c.spread_from.ensures.further;
+  further = both_further (scene_of c.args.scene.now) c.args.terns.now c.loop-copy.terns c.spread_from.new.terns
+      c.loop-copy.invariant.further c.spread_from.ensures.further;
   spread = c.spread_from.ensures.spread;
 }
 

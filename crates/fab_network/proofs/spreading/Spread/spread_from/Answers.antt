@@ -11,7 +11,8 @@ loop-note-init c = record {
 
 pub loop-note-preserved : goal.loop-note-preserved
 loop-note-preserved c = record {
-  further = both_further (scene_of c.args.scene.now) c.args.terns.now c.loop-note.terns c.spread_by.new.terns c.loop-note.invariant.further c.spread_by.ensures.further;
+  further = both_further (scene_of c.args.scene.now) c.args.terns.now c.loop-note.terns c.spread_by.new.terns
+      c.loop-note.invariant.further c.spread_by.ensures.further;
   spread = c.spread_by.ensures.spread;
 }
 
