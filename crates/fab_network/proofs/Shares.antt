@@ -1,5 +1,5 @@
 -- The value of an expression that is kept for its bits.
-use Rattle.std.proofs.Common.{◌≡◌, ℕ, ◌+◌, ◌-◌, ◌<◌, Bool, true, false, List, length, map, slice_get, slice_set, slice_index, get_or, zero, suc, not, [], ◌∷◌, Option, None, Some, IfSome, refl, sym, ap, ◌∙◌, subst, inl, inr, arith}
+use Rattle.std.proofs.Common.{◌≡◌, ℕ, ◌<◌, Bool, true, false, List, length, map, slice_get, slice_set, slice_index, get_or, zero, suc, not, [], ◌∷◌, Option, Some, refl, sym, ap, ◌∙◌, subst, inl, inr, arith}
 use Rattle.std.proofs.lemmas.Bool.{cases_Bool, false≢true}
 use Rattle.fab_systems_laws.specs.Ternary.{unknown, IsBelow}
 use Rattle.fab_systems_laws.proofs.Order.{below_equal, below_trans}
@@ -12,14 +12,12 @@ use Rattle.fab_compiled.specs.Terns.{seen}
 use Rattle.fab_compiled.specs.Trees.{IsMade}
 use Rattle.fab_compiled.specs.Evaluation.{value_seen, IsWithin}
 use Rattle.fab_compiled.specs.Leading.{PointTerns}
-use Rattle.fab_compiled.proofs.KeptBits.{kept_grows}
 use Rattle.fab_compiled.proofs.Written.{whole_bit}
 use Rattle.fab_network.specs.declared.network.Source.{Source}
 use Rattle.fab_network.specs.declared.sharing.Shared.{Shared}
-use Rattle.fab_network.specs.declared.sharing.Within.{Within}
 use Rattle.fab_network.specs.Network.{tern_in, source_tern, IsFitSource}
 use Rattle.fab_network.specs.Passes.{kept_tern}
-use Rattle.fab_network.specs.Sharing.{IsKeptBit, IsKeptWithin, IsShared}
+use Rattle.fab_network.specs.Sharing.{IsKeptBit, IsShared}
 use Rattle.fab_network.proofs.Kept.{known_below, rising_set}
 use Rattle.fab_network.proofs.Sources.{source_grows}
 
@@ -106,22 +104,3 @@ found_shared trees terns leads source tree number first bits fit there value sam
     let same : here ≡ this = (λ j. record { tree = sym same_tree j; first = sym same_first j; bit = bit }) in
     subst (λ (s : Source). IsKeptBit trees (length leads) (seen terns leads) true s kept) same
     (found_bits trees terns leads source tree bits fit there value bit kept at)
-
--- what is kept within an expression stays right where more is known
-pub within_grows : (trees : List Tree) (count : ℕ) (t u : PointTerns) → ((point : ℕ) → point < count → IsBelow (t point) (u point)) → (within : Within) →
-    IsKeptWithin trees count t within → IsKeptWithin trees count u within
-within_grows trees count t u grow within is = record {
-  tree = is.tree;
-  is = is.is;
-  made = is.made;
-  begins = is.begins;
-  inside = is.inside;
-  kept = kept_grows (count - within.first) (λ place. t (within.first + place)) (λ place. u (within.first + place))
-      (λ k l. grow (within.first + k) (omega (arith, is.begins))) is.tree within.kept.value is.made is.inside is.kept;
-}
-
--- the same where nothing may be kept
-pub any_within_grows : (trees : List Tree) (count : ℕ) (t u : PointTerns) → ((point : ℕ) → point < count → IsBelow (t point) (u point)) → (within : Option Within) →
-    IfSome within (IsKeptWithin trees count t) → IfSome within (IsKeptWithin trees count u)
-any_within_grows trees count t u grow None is = is
-any_within_grows trees count t u grow (Some within) is = within_grows trees count t u grow within is

@@ -8,9 +8,13 @@ mod network;
 mod passes;
 mod readers;
 mod reads;
+mod run_values;
 mod runs;
+mod scene;
 mod sharing;
+mod spreading;
 mod tables;
+mod within;
 
 pub use forms::{Form, forms_of};
 pub use leading::{lead_of_source, part_of_source};

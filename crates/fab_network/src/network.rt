@@ -170,10 +170,10 @@ fn meanwhile_by(
         Drive::Given | Drive::Flop(_, _) | Drive::Same(_) => {
             shown_by(trees, drive, point, held, shared, view)
         }
-        Drive::Value(source) => shared.point_meanwhile(trees, source, view),
+        Drive::Value(source) => shared.points.value_meanwhile(trees, source, view),
         Drive::Hold(gate, latched) => {
             let gate = shared.gates.value_meanwhile(trees, gate, view);
-            let data = shared.point_meanwhile(trees, latched, view);
+            let data = shared.points.value_meanwhile(trees, latched, view);
             through(gate, data, held)
         }
     }

@@ -9,22 +9,21 @@ ghost use Rattle.fab_compiled.specs.Terns.{seen, IsView};
 ghost use Rattle.fab_network.specs.Forms.{HasForms};
 ghost use Rattle.fab_network.specs.Network.{shown_tern, AreFit};
 ghost use Rattle.fab_network.specs.Passes.{changed_after, kept_tern, unsettled_after, AreBacked, AreOwn, AreRising, AreSolved, IsFurther, IsListed, IsPassed, IsVisit, StaysBelow};
+ghost use Rattle.fab_network.specs.Scenes.{scene_of, AreFormsOf, AreSharedOver, IsReady, IsSpreadOver};
 ghost use Rattle.fab_network.specs.Sharing.{AreShared};
 
 use crate::forms::{Form, shown_by_form};
 use crate::network::{Network, shown, shown_meanwhile};
 use crate::readers::Readers;
-use crate::runs::drive_at;
+use crate::scene::Scene;
 use crate::sharing::KeptValues;
+use crate::spreading::Spread;
 use fab_compiled::View;
 use fab_ternary::Tern;
 
-/// From how many looks at a run on its bits are taken to come to be known one by one.
-const MANY_TURNS: u8 = 3;
-
 /// What a look at a point finds.
 #[derive(Clone, Copy, Debug)]
-enum Visit {
+pub(crate) enum Visit {
     /// It was known before.
     Known,
     /// It is open, and what it shows is not known yet, or has not been looked at.
@@ -113,53 +112,35 @@ pub fn settle_by(
     ensures solved { AreSolved network.now.trees.items network.now.drives.items held.now order.now (seen terns.new leads.now) }
     ensures others { (point : ℕ) → (IsListed order.now point → ⊥) → kept_tern terns.new point ≡ kept_tern terns.old point }
 {
+    let scene = Scene {
+        network,
+        order,
+        held,
+        leads,
+        forms,
+    };
     'passes: loop {
-        let pass = pass_over(network, order, held, leads, forms, terns);
+        let pass = pass_over(&scene, terns);
         if !pass.changed || !pass.unsettled {
             return;
         }
-        look_again(network, order, held, leads, forms, readers, terns);
+        look_again(&scene, readers, terns);
     }
 }
 
 // One look at each point. Behind the first that has come to be known looks may wait, for the next pass.
-fn pass_over(
-    network: &Network,
-    order: &[u32],
-    held: &[Tern],
-    leads: &[u32],
-    forms: &[Form],
-    terns: &mut [Tern],
-) -> Pass
-    requires fit { AreFit network.now.trees.items network.now.drives.items }
-    requires points { length network.now.drives.items ≡ length leads.now }
-    requires terns { length terns.old ≡ length leads.now }
-    requires held { length held.now ≡ length leads.now }
-    requires view { IsView terns.old leads.now }
-    requires small { length leads.now ≤ 2 ^ 32 }
-    requires own { AreOwn order.now leads.now }
-    requires backed { AreBacked network.now.trees.items network.now.drives.items held.now order.now (seen terns.old leads.now) }
-    requires forms { HasForms network.now.trees.items network.now.drives.items order.now leads.now terns.old forms.now }
-    ensures { IsPassed (record { trees = network.now.trees.items; drives = network.now.drives.items; held = held.now; order = order.now; leads = leads.now })
-        (length order.now) terns.old terns.new result.changed result.unsettled }
+fn pass_over(scene: &Scene, terns: &mut [Tern]) -> Pass
+    requires ready { IsReady (scene_of scene.now) terns.old }
+    requires forms { AreFormsOf scene.now terns.old }
+    ensures { IsPassed (scene_of scene.now) (length scene.now.order.now) terns.old terns.new result.changed result.unsettled }
 {
     let mut pass = Pass {
         changed: false,
         unsettled: false,
     };
-    let mut shared = KeptValues::new(*network.trees.allocator());
-    for place in 0..order.len() {
-        let found = look_at(
-            network,
-            order,
-            held,
-            leads,
-            forms,
-            place,
-            pass.changed,
-            &mut shared,
-            terns,
-        );
+    let mut shared = KeptValues::new(*scene.network.trees.allocator());
+    for place in 0..scene.order.len() {
+        let found = look_at(scene, place, pass.changed, &mut shared, terns);
         pass = pass.noting(found);
     }
     pass
@@ -167,40 +148,32 @@ fn pass_over(
 
 // One look at the point at a place of the order. Where another one follows, less may be found.
 fn look_at(
-    network: &Network,
-    order: &[u32],
-    held: &[Tern],
-    leads: &[u32],
-    forms: &[Form],
+    scene: &Scene,
     place: usize,
     waits: bool,
     shared: &mut KeptValues,
     terns: &mut [Tern],
 ) -> Visit
-    requires fit { AreFit network.now.trees.items network.now.drives.items }
-    requires points { length network.now.drives.items ≡ length leads.now }
-    requires terns { length terns.old ≡ length leads.now }
-    requires held { length held.now ≡ length leads.now }
-    requires view { IsView terns.old leads.now }
-    requires small { length leads.now ≤ 2 ^ 32 }
-    requires own { AreOwn order.now leads.now }
-    requires within { place < length order.now }
-    requires forms { HasForms network.now.trees.items network.now.drives.items order.now leads.now terns.old forms.now }
-    requires shared { AreShared network.now.trees.items (length leads.now) (seen terns.old leads.now) shared.old }
-    ensures shared { AreShared network.now.trees.items (length leads.now) (seen terns.new leads.now) shared.new }
-    ensures visit { IsVisit (record { trees = network.now.trees.items; drives = network.now.drives.items; held = held.now; order = order.now; leads = leads.now })
-        waits (slice_index order.now place) terns.old terns.new result }
+    requires ready { IsReady (scene_of scene.now) terns.old }
+    requires within { place < length scene.now.order.now }
+    requires forms { AreFormsOf scene.now terns.old }
+    requires shared { AreSharedOver scene.now terns.old shared.old }
+    ensures shared { AreSharedOver scene.now terns.new shared.new }
+    ensures visit { IsVisit (scene_of scene.now) waits (slice_index scene.now.order.now place) terns.old terns.new result }
 {
-    let point = order[place] as usize;
+    let point = scene.order[place] as usize;
     if !terns[point].is_open() {
         return Visit::Known;
     }
-    let view = View { terns, leads };
+    let view = View {
+        terns,
+        leads: scene.leads,
+    };
     let found = look_for(
-        network,
-        order,
-        held[point],
-        forms,
+        scene.network,
+        scene.order,
+        scene.held[point],
+        scene.forms,
         place,
         waits,
         shared,
@@ -281,200 +254,93 @@ fn shown_at(
     }
 }
 
-// Looks again at the readers of points that are known, where the pass came to the reader first, and at those of points that come to be known. What is kept
-// of an expression serves for all bits of a run.
-fn look_again(
-    network: &Network,
-    order: &[u32],
-    held: &[Tern],
-    leads: &[u32],
-    forms: &[Form],
-    readers: &mut Readers,
-    terns: &mut [Tern],
-)
-    requires fit { AreFit network.now.trees.items network.now.drives.items }
-    requires points { length network.now.drives.items ≡ length leads.now }
-    requires terns { length terns.old ≡ length leads.now }
-    requires held { length held.now ≡ length leads.now }
-    requires view { IsView terns.old leads.now }
-    requires small { length leads.now ≤ 2 ^ 32 }
-    requires own { AreOwn order.now leads.now }
-    requires backed { AreBacked network.now.trees.items network.now.drives.items held.now order.now (seen terns.old leads.now) }
-    requires forms { HasForms network.now.trees.items network.now.drives.items order.now leads.now terns.old forms.now }
-    ensures { IsFurther (record { trees = network.now.trees.items; drives = network.now.drives.items; held = held.now; order = order.now; leads = leads.now })
-        terns.old terns.new }
+// Looks again at the readers of points that are known, where the pass came to the reader first, and at those of points that come to be known.
+fn look_again(scene: &Scene, readers: &mut Readers, terns: &mut [Tern])
+    requires ready { IsReady (scene_of scene.now) terns.old }
+    requires forms { AreFormsOf scene.now terns.old }
+    ensures { IsFurther (scene_of scene.now) terns.old terns.new }
 {
-    readers.note(network, order, leads);
-    readers.begin(order, terns);
-    let mut shared = KeptValues::new(*network.trees.allocator());
-    look_at_waiting(
-        network,
-        order,
-        held,
-        leads,
-        forms,
-        readers,
-        &mut shared,
-        terns,
-    );
+    readers.note(scene.network, scene.order, scene.leads);
+    readers.begin(scene.order, terns);
+    let alloc = *scene.network.trees.allocator();
+    let mut spread = Spread::new(alloc);
+    spread.begin(scene, &readers.runs, terns);
+    let mut shared = KeptValues::new(alloc);
+    look_at_waiting(scene, readers, &mut shared, &mut spread, terns);
 }
 
 // Looks at readers that wait, until none does. Each waits for something that has come to be known, so this ends long before the count does.
 fn look_at_waiting(
-    network: &Network,
-    order: &[u32],
-    held: &[Tern],
-    leads: &[u32],
-    forms: &[Form],
+    scene: &Scene,
     readers: &mut Readers,
     shared: &mut KeptValues,
+    spread: &mut Spread,
     terns: &mut [Tern],
 )
-    requires fit { AreFit network.now.trees.items network.now.drives.items }
-    requires points { length network.now.drives.items ≡ length leads.now }
-    requires terns { length terns.old ≡ length leads.now }
-    requires held { length held.now ≡ length leads.now }
-    requires view { IsView terns.old leads.now }
-    requires small { length leads.now ≤ 2 ^ 32 }
-    requires own { AreOwn order.now leads.now }
-    requires backed { AreBacked network.now.trees.items network.now.drives.items held.now order.now (seen terns.old leads.now) }
-    requires forms { HasForms network.now.trees.items network.now.drives.items order.now leads.now terns.old forms.now }
-    requires shared { AreShared network.now.trees.items (length leads.now) (seen terns.old leads.now) shared.old }
-    ensures shared { AreShared network.now.trees.items (length leads.now) (seen terns.new leads.now) shared.new }
-    ensures further { IsFurther (record { trees = network.now.trees.items; drives = network.now.drives.items; held = held.now; order = order.now; leads = leads.now })
-        terns.old terns.new }
+    requires ready { IsReady (scene_of scene.now) terns.old }
+    requires forms { AreFormsOf scene.now terns.old }
+    requires shared { AreSharedOver scene.now terns.old shared.old }
+    requires spread { IsSpreadOver scene.now terns.old spread.old }
+    ensures shared { AreSharedOver scene.now terns.new shared.new }
+    ensures spread { IsSpreadOver scene.now terns.new spread.new }
+    ensures further { IsFurther (scene_of scene.now) terns.old terns.new }
 {
-    for _reader in 0..usize::MAX {
-        let Some(place) = readers.next_waiting() else {
+    for _step in 0..usize::MAX {
+        if !look_on(scene, readers, shared, spread, terns) {
             return;
-        };
-        look_at_run(
-            network,
-            order,
-            held,
-            leads,
-            forms,
-            readers,
-            place as usize,
-            shared,
-            terns,
-        );
+        }
     }
 }
 
-// Looks at the points of the run that begins at a place of the order.
-fn look_at_run(
-    network: &Network,
-    order: &[u32],
-    held: &[Tern],
-    leads: &[u32],
-    forms: &[Form],
+// What reads a point that has come to be known is looked at next: all that the runs show by it, while other readers wait. Where there is no such point
+// a reader that waits is looked at. Told is whether there was something to look at.
+fn look_on(
+    scene: &Scene,
     readers: &mut Readers,
-    place: usize,
     shared: &mut KeptValues,
+    spread: &mut Spread,
     terns: &mut [Tern],
-)
-    requires fit { AreFit network.now.trees.items network.now.drives.items }
-    requires points { length network.now.drives.items ≡ length leads.now }
-    requires terns { length terns.old ≡ length leads.now }
-    requires held { length held.now ≡ length leads.now }
-    requires view { IsView terns.old leads.now }
-    requires small { length leads.now ≤ 2 ^ 32 }
-    requires own { AreOwn order.now leads.now }
-    requires backed { AreBacked network.now.trees.items network.now.drives.items held.now order.now (seen terns.old leads.now) }
-    requires forms { HasForms network.now.trees.items network.now.drives.items order.now leads.now terns.old forms.now }
-    requires shared { AreShared network.now.trees.items (length leads.now) (seen terns.old leads.now) shared.old }
-    ensures shared { AreShared network.now.trees.items (length leads.now) (seen terns.new leads.now) shared.new }
-    ensures further { IsFurther (record { trees = network.now.trees.items; drives = network.now.drives.items; held = held.now; order = order.now; leads = leads.now })
-        terns.old terns.new }
+) -> bool
+    requires ready { IsReady (scene_of scene.now) terns.old }
+    requires forms { AreFormsOf scene.now terns.old }
+    requires shared { AreSharedOver scene.now terns.old shared.old }
+    requires spread { IsSpreadOver scene.now terns.old spread.old }
+    ensures shared { AreSharedOver scene.now terns.new shared.new }
+    ensures spread { IsSpreadOver scene.now terns.new spread.new }
+    ensures further { IsFurther (scene_of scene.now) terns.old terns.new }
 {
-    let turns = readers.take_turn(place);
-    let view = View { terns, leads };
-    let end = begin_run(network, order, readers, place, turns, shared, &view);
-    for number in place..end {
-        let next = nth_of_run(place, end, number, turns);
-        look_at_reader(
-            network, order, held, leads, forms, readers, next, shared, terns,
-        );
+    if let Some(point) = spread.next_found() {
+        readers.find(point);
+        spread.spread(scene, &readers.runs, point, terns);
+        shared.note_change();
+        return true;
     }
-}
-
-// The place that is looked at next in a run, of which so many have been looked at: from the first to the last and the other way by turns, since each bit may
-// need the one beside it.
-fn nth_of_run(place: usize, end: usize, number: usize, turns: u8) -> usize {
-    if turns % 2 == 0 {
-        number
-    } else {
-        place.saturating_add(end.saturating_sub(number).saturating_sub(1))
-    }
-}
-
-// The point at a place of the order is looked at next, or the run that begins there, of which so many have been looked at. Told is the place behind.
-fn begin_run(
-    network: &Network,
-    order: &[u32],
-    readers: &Readers,
-    place: usize,
-    turns: u8,
-    shared: &mut KeptValues,
-    view: &View,
-) -> usize
-    requires fit { AreFit network.now.trees.items network.now.drives.items }
-    requires points { length network.now.drives.items ≡ length view.now.leads.now }
-    requires view { IsView view.now.terns.now view.now.leads.now }
-    requires small { length view.now.leads.now ≤ 2 ^ 32 }
-    requires shared { AreShared network.now.trees.items (length view.now.leads.now) (seen view.now.terns.now view.now.leads.now) shared.old }
-    ensures shared { AreShared network.now.trees.items (length view.now.leads.now) (seen view.now.terns.now view.now.leads.now) shared.new }
-{
-    let (Some(end), Some(drive)) = (readers.end_at(place), drive_at(network, order, place)) else {
-        return place.saturating_add(1);
+    let Some(place) = readers.next_waiting() else {
+        return false;
     };
-    shared.begin_run(&network.trees, drive);
-    if turns >= MANY_TURNS {
-        shared.keep_within(&network.trees, drive, view);
-    }
-    end
+    look_at_reader(scene, place as usize, shared, spread, terns);
+    true
 }
 
 // Looks at the point at a place of the order. The look may wait, since another pass follows.
 fn look_at_reader(
-    network: &Network,
-    order: &[u32],
-    held: &[Tern],
-    leads: &[u32],
-    forms: &[Form],
-    readers: &mut Readers,
+    scene: &Scene,
     place: usize,
     shared: &mut KeptValues,
+    spread: &mut Spread,
     terns: &mut [Tern],
 )
-    requires fit { AreFit network.now.trees.items network.now.drives.items }
-    requires points { length network.now.drives.items ≡ length leads.now }
-    requires terns { length terns.old ≡ length leads.now }
-    requires held { length held.now ≡ length leads.now }
-    requires view { IsView terns.old leads.now }
-    requires small { length leads.now ≤ 2 ^ 32 }
-    requires own { AreOwn order.now leads.now }
-    requires backed { AreBacked network.now.trees.items network.now.drives.items held.now order.now (seen terns.old leads.now) }
-    requires forms { HasForms network.now.trees.items network.now.drives.items order.now leads.now terns.old forms.now }
-    requires shared { AreShared network.now.trees.items (length leads.now) (seen terns.old leads.now) shared.old }
-    ensures shared { AreShared network.now.trees.items (length leads.now) (seen terns.new leads.now) shared.new }
-    ensures further { IsFurther (record { trees = network.now.trees.items; drives = network.now.drives.items; held = held.now; order = order.now; leads = leads.now })
-        terns.old terns.new }
+    requires ready { IsReady (scene_of scene.now) terns.old }
+    requires forms { AreFormsOf scene.now terns.old }
+    requires shared { AreSharedOver scene.now terns.old shared.old }
+    requires spread { IsSpreadOver scene.now terns.old spread.old }
+    ensures shared { AreSharedOver scene.now terns.new shared.new }
+    ensures spread { IsSpreadOver scene.now terns.new spread.new }
+    ensures further { IsFurther (scene_of scene.now) terns.old terns.new }
 {
-    if place >= order.len() {
+    if place >= scene.order.len() {
         return;
     }
-    let found = look_at(
-        network, order, held, leads, forms, place, true, shared, terns,
-    );
-    note_found(readers, order[place], found);
-}
-
-// The readers of a point wait where it has come to be known.
-fn note_found(readers: &mut Readers, point: u32, visit: Visit) {
-    match visit {
-        Visit::Found => readers.find(point),
-        Visit::Known | Visit::Still => {}
-    }
+    let found = look_at(scene, place, true, shared, terns);
+    spread.note_found(scene.order[place], found);
 }

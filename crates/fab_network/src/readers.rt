@@ -205,7 +205,9 @@ impl Readers {
     fn note_all(&mut self, tree: &Tree, first: usize, leads: &[u32], reader: u32) {
         let _ = ranges_of(tree, first, &mut self.ranges);
         for place in 0..self.ranges.len() {
-            self.note_points(self.ranges[place], leads, reader);
+            if let Some(range) = self.ranges.get(place).copied() {
+                self.note_points(range, leads, reader);
+            }
         }
     }
 

@@ -188,7 +188,9 @@ impl Runs {
             ranges_of(tree, source.first as usize, &mut self.ranges)?;
         }
         for place in 0..self.ranges.len() {
-            self.note_range(self.ranges[place], number)?;
+            if let Some(range) = self.ranges.get(place).copied() {
+                self.note_range(range, number)?;
+            }
         }
         Ok(())
     }

@@ -6,12 +6,12 @@ ghost use Rattle.fab_ternary.specs.Terns.{is_known, plain_tern};
 ghost use Rattle.fab_compiled.specs.declared.tree.Tree.{Tree};
 ghost use Rattle.fab_compiled.specs.Leading.{PointTerns};
 ghost use Rattle.fab_compiled.specs.Terns.{seen, IsView};
-ghost use Rattle.fab_network.specs.Network.{source_tern, IsFitDrive, IsFitSource};
-ghost use Rattle.fab_network.specs.Sharing.{AreShared, IsKeptWithin, IsShared};
+ghost use Rattle.fab_network.specs.Network.{source_tern, IsFitSource};
+ghost use Rattle.fab_network.specs.Sharing.{AreShared, IsShared};
 
-use crate::network::{Drive, Source, evaluate};
+use crate::network::{Source, evaluate};
 use fab_base::Memory;
-use fab_compiled::{Kept, Tree, View, bit_by, kept_of, whole_into};
+use fab_compiled::{Tree, View, whole_into};
 use fab_plans::Plan;
 use fab_ternary::Tern;
 use std::alloc::Global;
@@ -138,7 +138,7 @@ impl Shared {
     }
 
     // Whether a bit was open when all bits of its expression were found, which takes as long as each alone.
-    pub(crate) fn may_wait(&self, source: Source) -> bool {
+    fn may_wait(&self, source: Source) -> bool {
         let has_bits = self.is_of(source) && self.bits.len() > 0;
         has_bits && self.are_together() && self.kept(source.bit).is_none()
     }
@@ -151,23 +151,6 @@ impl Shared {
     // Whether each bit alone may take as long as all of them.
     fn are_together(&self) -> bool {
         matches!(self.plan, Plan::Together(_))
-    }
-
-    // Bits of an expression are looked at from now on, which are all found with the first that is open: so those that were open before are found anew.
-    fn begin_run(&mut self, trees: &[Tree], source: Source)
-        ensures { (trees : List Tree) (count : ℕ) (t : PointTerns) → IsShared trees count t self.old → IsShared trees count t self.new }
-    {
-        self.turn_to(source.tree, source.first);
-        self.plan = self.plan.decided(trees.get(source.tree as usize));
-    }
-
-    // The same of a single bit. Where it is known there is nothing to find.
-    fn begin_bit(&mut self, trees: &[Tree], source: Source)
-        ensures { (trees : List Tree) (count : ℕ) (t : PointTerns) → IsShared trees count t self.old → IsShared trees count t self.new }
-    {
-        if !self.is_of(source) || self.kept(source.bit).is_none() {
-            self.begin_run(trees, source);
-        }
     }
 
     // Finds all bits of the expression.
@@ -213,63 +196,11 @@ impl Shared {
     }
 }
 
-/// What is kept of an expression bits of which come to be known one by one.
-#[derive(Drop)]
-pub struct Within {
-    /// The number of its tree.
-    pub tree: u32,
-    /// The first point of its instance.
-    pub first: u32,
-    pub kept: Box<Kept>,
-}
-
-impl Within {
-    // What is kept of the expression of a source, where there is memory.
-    fn of(alloc: Global, trees: &[Tree], source: Source, view: &View) -> Option<Within>
-        requires fit { IsFitSource trees.now (length view.now.leads.now) source }
-        requires view { IsView view.now.terns.now view.now.leads.now }
-        requires small { length view.now.leads.now ≤ 2 ^ 32 }
-        ensures { IfSome result (IsKeptWithin trees.now (length view.now.leads.now) (seen view.now.terns.now view.now.leads.now)) }
-    {
-        let tree = &trees[source.tree as usize];
-        match kept_of(alloc, tree, source.first as usize, view) {
-            Ok(kept) => Some(Within {
-                tree: source.tree,
-                first: source.first,
-                kept,
-            }),
-            Err(Memory) => None,
-        }
-    }
-
-    // A bit of a source by what is kept, or open where that is of another expression.
-    fn bit(&self, trees: &[Tree], source: Source, view: &View) -> Tern
-        requires fit { IsFitSource trees.now (length view.now.leads.now) source }
-        requires view { IsView view.now.terns.now view.now.leads.now }
-        requires small { length view.now.leads.now ≤ 2 ^ 32 }
-        requires kept { IsKeptWithin trees.now (length view.now.leads.now) (seen view.now.terns.now view.now.leads.now) self.now }
-        ensures { IsBelow (plain_tern result) (source_tern trees.now (seen view.now.terns.now view.now.leads.now) source) }
-    {
-        if self.first != source.first || self.tree != source.tree {
-            return Tern::Open;
-        }
-        let tree = &trees[self.tree as usize];
-        let first = self.first as usize;
-        bit_by(tree, &self.kept, u64::from(source.bit), first, view)
-    }
-}
-
-/// How many bits in a row are looked at in vain by what is kept within an expression, before the rest of a run is left out.
-const PATIENCE: u32 = 64;
-
 /// What a pass keeps of expressions: of those of points, and of gates, since latches that follow one another may have one gate.
 #[derive(Drop)]
 pub struct KeptValues {
     pub points: Shared,
     pub gates: Shared,
-    pub within: Option<Within>,
-    /// How many more bits are looked at by that.
-    pub patience: u32,
 }
 
 impl KeptValues {
@@ -280,62 +211,6 @@ impl KeptValues {
         KeptValues {
             points: Shared::new(alloc),
             gates: Shared::new(alloc),
-            within: None,
-            patience: 0,
-        }
-    }
-
-    /// What the source of a point has, where another look follows.
-    pub(crate) fn point_meanwhile(&mut self, trees: &[Tree], source: Source, view: &View) -> Tern
-        requires fit { IsFitSource trees.now (length view.now.leads.now) source }
-        requires view { IsView view.now.terns.now view.now.leads.now }
-        requires small { length view.now.leads.now ≤ 2 ^ 32 }
-        requires shared { AreShared trees.now (length view.now.leads.now) (seen view.now.terns.now view.now.leads.now) self.old }
-        ensures below { IsBelow (plain_tern result) (source_tern trees.now (seen view.now.terns.now view.now.leads.now) source) }
-        ensures shared { AreShared trees.now (length view.now.leads.now) (seen view.now.terns.now view.now.leads.now) self.new }
-    {
-        if !self.points.may_wait(source) {
-            return self.points.value(trees, source, view);
-        }
-        if self.patience == 0 {
-            return Tern::Open;
-        }
-        self.patience -= 1;
-        match &self.within {
-            Some(within) => within.bit(trees, source, view),
-            None => Tern::Open,
-        }
-    }
-
-    /// The bits of differences and equalities within an expression are kept as they are now, for a run of bits that come to be known one by one.
-    pub(crate) fn keep_within(&mut self, trees: &[Tree], drive: Drive, view: &View)
-        requires fit { IsFitDrive trees.now (length view.now.leads.now) drive }
-        requires view { IsView view.now.terns.now view.now.leads.now }
-        requires small { length view.now.leads.now ≤ 2 ^ 32 }
-        requires shared { AreShared trees.now (length view.now.leads.now) (seen view.now.terns.now view.now.leads.now) self.old }
-        ensures shared { AreShared trees.now (length view.now.leads.now) (seen view.now.terns.now view.now.leads.now) self.new }
-    {
-        match drive {
-            Drive::Given | Drive::Flop(_, _) | Drive::Same(_) => {}
-            Drive::Value(source) | Drive::Hold(_, source) => {
-                let alloc = *self.points.bits.allocator();
-                self.within = Within::of(alloc, trees, source, view);
-            }
-        }
-    }
-
-    /// Points of this drive, and of others that are bits beside it, are looked at from now on: bits that were open are found anew.
-    pub(crate) fn begin_run(&mut self, trees: &[Tree], drive: Drive)
-        ensures { (trees : List Tree) (count : ℕ) (t : PointTerns) → AreShared trees count t self.old → AreShared trees count t self.new }
-    {
-        self.patience = 0;
-        match drive {
-            Drive::Given | Drive::Flop(_, _) | Drive::Same(_) => {}
-            Drive::Value(source) => self.points.begin_run(trees, source),
-            Drive::Hold(gate, latched) => {
-                self.gates.begin_bit(trees, gate);
-                self.points.begin_run(trees, latched);
-            }
         }
     }
 
@@ -346,6 +221,5 @@ impl KeptValues {
     {
         self.points.note_change();
         self.gates.note_change();
-        self.patience = PATIENCE;
     }
 }

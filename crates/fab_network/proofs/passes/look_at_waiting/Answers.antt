@@ -1,25 +1,36 @@
 use Rattle.fab_network.specs.Passes.{Scene}
+use Rattle.fab_network.specs.Scenes.{scene_of}
 use Rattle.fab_network.proofs.Forming.{forms_stay}
+use Rattle.fab_network.proofs.Growing.{ready_after}
 use Rattle.fab_network.proofs.Passing.{both_further, none_further}
 use Rattle.fab_network.proofs.passes.look_at_waiting.Goals as goal
 
-pub loop-reader-init : goal.loop-reader-init
-loop-reader-init c =
-    let scene : Scene = record { trees = c.args.network.now.trees.items; drives = c.args.network.now.drives.items; held = c.args.held.now; order = c.args.order.now; leads = c.args.leads.now } in
-    record {
-      further = none_further scene c.args.terns.now c.requires.backed;
-      shared = c.requires.shared;
-    }
+pub loop-step-init : goal.loop-step-init
+loop-step-init c = record {
+  further = none_further (scene_of c.args.scene.now) c.args.terns.now c.requires.ready.backed;
+  shared = c.requires.shared;
+  spread = c.requires.spread;
+}
 
-pub loop-reader-preserved : goal.loop-reader-preserved
-loop-reader-preserved c =
-    let scene : Scene = record { trees = c.args.network.now.trees.items; drives = c.args.network.now.drives.items; held = c.args.held.now; order = c.args.order.now; leads = c.args.leads.now } in
-    record {
-      further = both_further scene c.args.terns.now c.loop-reader.terns c.look_at_run.new.terns c.loop-reader.invariant.further c.look_at_run.ensures.further;
-      shared = c.look_at_run.ensures.shared;
-    }
+pub loop-step-preserved : goal.loop-step-preserved
+loop-step-preserved c = record {
+  further = both_further (scene_of c.args.scene.now) c.args.terns.now c.loop-step.terns c.look_on.new.terns
+      c.loop-step.invariant.further c.look_on.ensures.further;
+  shared = c.look_on.ensures.shared;
+  spread = c.look_on.ensures.spread;
+}
 
-pub look_at_run-requires-clause-forms : goal.look_at_run-requires-clause-forms
-look_at_run-requires-clause-forms c =
-    forms_stay c.args.network.now.trees.items c.args.network.now.drives.items c.args.order.now c.args.leads.now c.args.terns.now c.loop-reader.terns c.args.forms.now
-    c.loop-reader.invariant.further.others c.requires.forms
+pub look_on-requires-clause-ready : goal.look_on-requires-clause-ready
+look_on-requires-clause-ready c =
+    ready_after (scene_of c.args.scene.now) c.args.terns.now c.loop-step.terns c.requires.ready c.loop-step.invariant.further
+
+pub look_on-requires-clause-forms : goal.look_on-requires-clause-forms
+look_on-requires-clause-forms c =
+    let scene : Scene = scene_of c.args.scene.now in
+    forms_stay scene.trees scene.drives scene.order scene.leads c.args.terns.now c.loop-step.terns c.args.scene.now.forms.now
+    c.loop-step.invariant.further.others c.requires.forms
+
+pub returns-then-not-look_on-clause-further : goal.returns-then-not-look_on-clause-further
+returns-then-not-look_on-clause-further c =
+    both_further (scene_of c.args.scene.now) c.args.terns.now c.loop-step.terns c.look_on.new.terns c.loop-step.invariant.further
+    c.look_on.ensures.further

@@ -1,12 +1,10 @@
-use Rattle.std.proofs.Common.{length}
-use Rattle.fab_compiled.specs.Terns.{seen}
 use Rattle.fab_network.specs.Passes.{IsFurther}
-use Rattle.fab_network.specs.Sharing.{AreShared}
+use Rattle.fab_network.specs.Scenes.{scene_of, AreSharedOver, IsSpreadOver}
 use Rattle.fab_network.proofs.passes.look_at_waiting.Given as goal
 
-abbrev pub invariant-loop-reader : goal.invariant-loop-reader
-invariant-loop-reader l = record {
-  further : IsFurther (record { trees = l.network.trees.items; drives = l.network.drives.items; held = l.held; order = l.order; leads = l.leads })
-      l.initial.terns l.terns;
-  shared : AreShared l.network.trees.items (length l.leads) (seen l.terns l.leads) l.shared;
+abbrev pub invariant-loop-step : goal.invariant-loop-step
+invariant-loop-step l = record {
+  further : IsFurther (scene_of l.scene) l.initial.terns l.terns;
+  shared : AreSharedOver l.scene l.terns l.shared;
+  spread : IsSpreadOver l.scene l.terns l.spread;
 }

@@ -1,12 +1,9 @@
-use Rattle.std.proofs.Common.{length}
-use Rattle.fab_compiled.specs.Terns.{seen}
 use Rattle.fab_network.specs.Passes.{IsPassed}
-use Rattle.fab_network.specs.Sharing.{AreShared}
+use Rattle.fab_network.specs.Scenes.{scene_of, AreSharedOver}
 use Rattle.fab_network.proofs.passes.pass_over.Given as goal
 
 abbrev pub invariant-loop-place : goal.invariant-loop-place
 invariant-loop-place l = record {
-  passed : IsPassed (record { trees = l.network.trees.items; drives = l.network.drives.items; held = l.held; order = l.order; leads = l.leads })
-      l.place l.initial.terns l.terns l.pass.changed l.pass.unsettled;
-  shared : AreShared l.network.trees.items (length l.leads) (seen l.terns l.leads) l.shared;
+  passed : IsPassed (scene_of l.scene) l.place l.initial.terns l.terns l.pass.changed l.pass.unsettled;
+  shared : AreSharedOver l.scene l.terns l.shared;
 }

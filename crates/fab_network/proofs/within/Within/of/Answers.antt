@@ -4,7 +4,7 @@ use Rattle.fab_compiled.specs.declared.tree.Tree.{Tree}
 use Rattle.fab_compiled.specs.Evaluation.{IsWithin}
 use Rattle.fab_compiled.specs.Trees.{IsMade}
 use Rattle.fab_network.proofs.Shares.{read_there}
-use Rattle.fab_network.proofs.sharing.Within.of.Goals as goal
+use Rattle.fab_network.proofs.within.Within.of.Goals as goal
 
 pub returns-in-Ok : goal.returns-in-Ok
 returns-in-Ok c =
