@@ -23,8 +23,8 @@ const IDLE: u32 = u32::MAX - 1;
 /// How many notes there is room for, for each point: most operators have fewer operands.
 const NOTES_OF_A_POINT: usize = 4;
 
-/// The readers of points, so that `settle` looks again at those alone that read what has come to be known. A reader is the place in the order of a point, or
-/// a run of points of a wide expression. They are a help for speed: what `settle` finds does not depend on them.
+/// The readers of points, so that `settle` of `fab_settling` looks again at those alone that read what has come to be known. A reader is the place in the
+/// order of a point, or a run of points of a wide expression. They are a help for speed: what `settle` finds does not depend on them.
 #[derive(Drop)]
 pub struct Readers {
     /// By the number of a point: the place of the last note of a reader of it.

@@ -36,7 +36,7 @@ struct Note {
     before: u32,
 }
 
-/// The runs of wide expressions, and what they read. They are a help for speed: what `settle` finds does not depend on them.
+/// The runs of wide expressions, and what they read. They are a help for speed: what `settle` of `fab_settling` finds does not depend on them.
 #[derive(Drop)]
 pub struct Runs {
     runs: Vec<Run>,
