@@ -1,25 +1,29 @@
-//! What is known of the nodes of an expression by one more point.
+//! What is known of the nodes of an expression by one more point. The walk goes down to the names that have the place of the point, and up again as long as
+//! bits come to be known.
 
-ghost use Rattle.std.specs.Prelude.{◌≡◌, ◌+◌, ◌^◌, ◌≤◌, length, map};
+ghost use Rattle.std.specs.Prelude.{◌≡◌, ◌+◌, ◌^◌, ◌≤◌, length, map, take, drop};
 ghost use Rattle.fab_ternary.specs.Terns.{plain_tern};
 ghost use Rattle.fab_compiled.specs.Terns.{seen, IsView};
-ghost use Rattle.fab_compiled.specs.Trees.{IsMade};
+ghost use Rattle.fab_compiled.specs.Trees.{tree_width, IsMade};
 ghost use Rattle.fab_compiled.specs.Evaluation.{IsWithin};
-ghost use Rattle.fab_nodes.specs.Nodes.{room, AreNodes, IsLaidOut};
+ghost use Rattle.fab_nodes.specs.Nodes.{room, AreNodes, AreOperands, IsLaidOut};
+ghost use Rattle.fab_nodes.specs.inner.Renewing.{AreBoth, IsOperator, IsRead};
 
+use crate::dueness::{find_whole, is_due, is_found};
 use crate::filling::Spare;
 use crate::layout::Layout;
+use crate::pointwise::{Operand, pair_of, settle};
 use fab_base::Memory;
 use fab_compiled::{Tree, View};
 use fab_ternary::Tern;
 use std::alloc::Global;
 
-/// What is new of an expression, and what helps to tell when an equality or a difference has to be found anew. Nothing that is found rests on it.
+/// What is new of an expression, and what helps to tell when an operator has to be found anew as a whole. Nothing that is found rests on it.
 #[derive(Drop)]
 pub struct News {
-    /// Bits that may have come to be known: those of a node, while its operator is looked at.
+    /// Bits that may have come to be known: those of a node, while its operator is looked at, behind those of the nodes before it.
     pub bits: Vec<u32>,
-    /// By the number of an equality or a difference: how many bits of its operands are known, from the first on.
+    /// By the number of an equality or a difference: how many bits of its operands are known, from the first on. By that of a pick: how often it was looked at.
     pub known: Vec<u64>,
 }
 
@@ -42,6 +46,7 @@ pub struct Renewed<'v> {
 }
 
 /// Finds what is known by one more point. Where memory is refused, less is found.
+#[cycle(renewing)]
 pub(crate) fn renew(
     tree: &Tree,
     layout: &Layout,
@@ -60,4 +65,201 @@ pub(crate) fn renew(
     requires nodes { AreNodes (λ place. seen point.now.view.terns.now point.now.view.leads.now (point.now.first + place)) tree.now (map plain_tern bits.old) }
     ensures { AreNodes (λ place. seen point.now.view.terns.now point.now.view.leads.now (point.now.first + place)) tree.now (map plain_tern bits.new) }
 {
+    let node = layout.node();
+    let place = point.place as u64;
+    if place < node.low || place >= node.end {
+        return;
+    }
+    match tree {
+        Tree::Const(_) => {}
+        Tree::Bits(name, count) => push_place(place, *name, *count, &mut news.bits),
+        Tree::Pick(_, _, _) | Tree::Equal(_, _, _) | Tree::Minus(_, _, _) => {
+            renew_whole(tree, layout, point, spare, news, bits)
+        }
+        Tree::Cat(_, _, _) | Tree::Not(_) | Tree::And(_, _) => {
+            renew_pointwise(tree, layout, point, spare, news, bits)
+        }
+        Tree::Or(_, _) | Tree::Xor(_, _) | Tree::Cond(_, _, _) => {
+            renew_pointwise(tree, layout, point, spare, news, bits)
+        }
+    }
+}
+
+// A bit of a name: the one at the place.
+fn push_place(place: u64, name: u32, count: u32, bits: &mut Vec<u32>) {
+    let Some(bit) = place.checked_sub(u64::from(name)) else {
+        return;
+    };
+    if bit < u64::from(count) {
+        let _ = bits.push(bit as u32);
+    }
+}
+
+// The same of an operator of which each bit is found by those of its operands with the same number.
+#[cycle(renewing)]
+fn renew_pointwise(
+    tree: &Tree,
+    layout: &Layout,
+    point: &Renewed,
+    spare: &mut Spare,
+    news: &mut News,
+    bits: &mut [Tern],
+)
+    requires operator { IsOperator tree.now }
+    requires read { IsRead point.now.view.terns.now point.now.view.leads.now point.now.first tree.now layout.now }
+    requires long { length bits.old ≡ room tree.now }
+    requires nodes { AreNodes (λ place. seen point.now.view.terns.now point.now.view.leads.now (point.now.first + place)) tree.now (map plain_tern bits.old) }
+    ensures { AreNodes (λ place. seen point.now.view.terns.now point.now.view.leads.now (point.now.first + place)) tree.now (map plain_tern bits.new) }
+{
+    let (own, operands) = bits.split_at_mut(layout.node().width);
+    let mark = news.bits.len();
+    renew_operands(tree, layout, point, spare, news, operands);
+    settle(tree, layout, point, news, mark, operands, own);
+}
+
+// The same of one that is found as a whole. Where it is known, what it is found by does not matter any more.
+#[cycle(renewing)]
+fn renew_whole(
+    tree: &Tree,
+    layout: &Layout,
+    point: &Renewed,
+    spare: &mut Spare,
+    news: &mut News,
+    bits: &mut [Tern],
+)
+    requires operator { IsOperator tree.now }
+    requires read { IsRead point.now.view.terns.now point.now.view.leads.now point.now.first tree.now layout.now }
+    requires long { length bits.old ≡ room tree.now }
+    requires nodes { AreNodes (λ place. seen point.now.view.terns.now point.now.view.leads.now (point.now.first + place)) tree.now (map plain_tern bits.old) }
+    ensures { AreNodes (λ place. seen point.now.view.terns.now point.now.view.leads.now (point.now.first + place)) tree.now (map plain_tern bits.new) }
+{
+    let (own, operands) = bits.split_at_mut(layout.node().width);
+    if is_found(own) {
+        return;
+    }
+    let mark = news.bits.len();
+    renew_operands(tree, layout, point, spare, news, operands);
+    let due = is_due(tree, layout, point, news, mark, operands);
+    news.bits.truncate(mark);
+    if due {
+        find_whole(tree, layout, point, spare, news, operands, own);
+    }
+}
+
+// The same of the operands of an operator. Their bits get the numbers of those that are found by them.
+#[cycle(renewing)]
+fn renew_operands(
+    tree: &Tree,
+    layout: &Layout,
+    point: &Renewed,
+    spare: &mut Spare,
+    news: &mut News,
+    bits: &mut [Tern],
+)
+    requires read { IsRead point.now.view.terns.now point.now.view.leads.now point.now.first tree.now layout.now }
+    requires long { tree_width tree.now + length bits.old ≡ room tree.now }
+    requires operands { AreOperands (λ place. seen point.now.view.terns.now point.now.view.leads.now (point.now.first + place)) tree.now (map plain_tern bits.old) }
+    ensures { AreOperands (λ place. seen point.now.view.terns.now point.now.view.leads.now (point.now.first + place)) tree.now (map plain_tern bits.new) }
+{
+    if let Some((left, right)) = pair_of(tree, layout) {
+        let middle = renew_two(left, right, point, spare, news, bits);
+        number_behind(tree, middle, &mut news.bits);
+        return;
+    }
+    match tree {
+        Tree::Pick(_, _, inner) | Tree::Not(inner) => {
+            let Layout::One(_, of_inner) = layout else {
+                return;
+            };
+            renew(inner, of_inner, point, spare, news, bits);
+        }
+        Tree::Cond(test, yes, no) => {
+            let Layout::Three(_, of_test, of_yes, of_no) = layout else {
+                return;
+            };
+            let test = Operand::of(test, of_test);
+            let yes = Operand::of(yes, of_yes);
+            let no = Operand::of(no, of_no);
+            renew_cond(test, yes, no, point, spare, news, bits);
+        }
+        Tree::Const(_) | Tree::Bits(_, _) | Tree::Cat(_, _, _) | Tree::And(_, _) => {}
+        Tree::Or(_, _) | Tree::Xor(_, _) | Tree::Equal(_, _, _) | Tree::Minus(_, _, _) => {}
+    }
+}
+
+// The same of two operands whose values follow one another. It answers where the new bits of the second one begin.
+#[cycle(renewing)]
+fn renew_two(
+    left: Operand,
+    right: Operand,
+    point: &Renewed,
+    spare: &mut Spare,
+    news: &mut News,
+    bits: &mut [Tern],
+) -> usize
+    requires left { IsRead point.now.view.terns.now point.now.view.leads.now point.now.first left.tree.now left.layout.now }
+    requires right { IsRead point.now.view.terns.now point.now.view.leads.now point.now.first right.tree.now right.layout.now }
+    requires long { length bits.old ≡ room left.tree.now + room right.tree.now }
+    requires nodes { AreBoth (λ place. seen point.now.view.terns.now point.now.view.leads.now (point.now.first + place)) left.tree.now right.tree.now (map plain_tern bits.old) }
+    ensures { AreBoth (λ place. seen point.now.view.terns.now point.now.view.leads.now (point.now.first + place)) left.tree.now right.tree.now (map plain_tern bits.new) }
+{
+    let (of_left, of_right) = bits.split_at_mut(left.layout.node().room);
+    renew(left.tree, left.layout, point, spare, news, of_left);
+    let middle = news.bits.len();
+    renew(right.tree, right.layout, point, spare, news, of_right);
+    middle
+}
+
+// The same of the test and the branches of `?:`. Where the test is new, all bits are.
+#[cycle(renewing)]
+fn renew_cond(
+    test: Operand,
+    yes: Operand,
+    no: Operand,
+    point: &Renewed,
+    spare: &mut Spare,
+    news: &mut News,
+    bits: &mut [Tern],
+)
+    requires test { IsRead point.now.view.terns.now point.now.view.leads.now point.now.first test.tree.now test.layout.now }
+    requires yes { IsRead point.now.view.terns.now point.now.view.leads.now point.now.first yes.tree.now yes.layout.now }
+    requires no { IsRead point.now.view.terns.now point.now.view.leads.now point.now.first no.tree.now no.layout.now }
+    requires long { length bits.old ≡ room test.tree.now + (room yes.tree.now + room no.tree.now) }
+    requires of_test { AreNodes (λ place. seen point.now.view.terns.now point.now.view.leads.now (point.now.first + place)) test.tree.now (take (room test.tree.now) (map plain_tern bits.old)) }
+    requires branches { AreBoth (λ place. seen point.now.view.terns.now point.now.view.leads.now (point.now.first + place)) yes.tree.now no.tree.now (drop (room test.tree.now) (map plain_tern bits.old)) }
+    ensures of_test { AreNodes (λ place. seen point.now.view.terns.now point.now.view.leads.now (point.now.first + place)) test.tree.now (take (room test.tree.now) (map plain_tern bits.new)) }
+    ensures branches { AreBoth (λ place. seen point.now.view.terns.now point.now.view.leads.now (point.now.first + place)) yes.tree.now no.tree.now (drop (room test.tree.now) (map plain_tern bits.new)) }
+{
+    let (of_test, branches) = bits.split_at_mut(test.layout.node().room);
+    let mark = news.bits.len();
+    renew(test.tree, test.layout, point, spare, news, of_test);
+    let tested = news.bits.len() > mark;
+    news.bits.truncate(mark);
+    let _middle = renew_two(yes, no, point, spare, news, branches);
+    if tested {
+        news.bits.truncate(mark);
+        push_numbers(yes.layout.node().width, &mut news.bits);
+    }
+}
+
+// Numbers from 0 on.
+pub(crate) fn push_numbers(count: usize, bits: &mut Vec<u32>) {
+    for bit in 0..u32::try_from(count).unwrap_or(u32::MAX) {
+        if bits.push(bit).is_err() {
+            return;
+        }
+    }
+}
+
+// The bits of a more significant part, from the middle on, stand behind those of the less significant one.
+fn number_behind(tree: &Tree, middle: usize, bits: &mut Vec<u32>) {
+    let Tree::Cat(_, width, _) = tree else {
+        return;
+    };
+    let width = u32::try_from(*width).unwrap_or(u32::MAX);
+    for next in middle..bits.len() {
+        if let Some(bit) = bits.get_mut(next) {
+            *bit = bit.saturating_add(width);
+        }
+    }
 }
