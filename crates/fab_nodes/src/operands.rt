@@ -1,4 +1,4 @@
-//! Bits of operands, by what is kept of them.
+//! The operands of an expression, and their bits by what is kept of them.
 
 ghost use Rattle.std.specs.Prelude.{◌≡◌, ◌+◌, ◌^◌, ◌<◌, ◌≤◌, length, map, OnOk};
 ghost use Rattle.fab_systems_laws.specs.Ternary.{IsBelow};
@@ -9,6 +9,7 @@ ghost use Rattle.fab_compiled.specs.Terns.{seen, IsView};
 ghost use Rattle.fab_compiled.specs.Trees.{tree_width, IsMade};
 ghost use Rattle.fab_compiled.specs.Evaluation.{value_seen, IsWithin};
 ghost use Rattle.fab_nodes.specs.Nodes.{room, AreNodes};
+ghost use Rattle.fab_nodes.specs.inner.Operands.{is_plain, HasOperands};
 
 use fab_base::Memory;
 use fab_compiled::{Tree, View, eval, whole_into};
@@ -64,6 +65,38 @@ pub(crate) fn operand_into(
 }
 
 /// Whether nothing is kept of an expression itself.
-pub(crate) fn is_leaf(tree: &Tree) -> bool {
-    matches!(tree, Tree::Const(_) | Tree::Bits(_, _))
+pub(crate) fn is_leaf(tree: &Tree) -> bool
+    ensures { result ≡ is_plain tree.now }
+{
+    match tree {
+        Tree::Const(_) | Tree::Bits(_, _) => true,
+        Tree::Pick(_, _, _) | Tree::Cat(_, _, _) | Tree::Not(_) | Tree::Cond(_, _, _) => false,
+        Tree::And(_, _) | Tree::Or(_, _) | Tree::Xor(_, _) => false,
+        Tree::Equal(_, _, _) | Tree::Minus(_, _, _) => false,
+    }
+}
+
+/// The operands of an expression, the less significant part or the test first.
+#[derive(Clone, Copy)]
+pub(crate) enum Operands<'t> {
+    None,
+    One(&'t Tree),
+    Two(&'t Tree, &'t Tree),
+    Three(&'t Tree, &'t Tree, &'t Tree),
+}
+
+/// The operands of an expression.
+pub(crate) fn operands_of(tree: &Tree) -> Operands<'_>
+    ensures { HasOperands tree.now result }
+{
+    match tree {
+        Tree::Const(_) | Tree::Bits(_, _) => Operands::None,
+        Tree::Pick(_, _, operand) | Tree::Not(operand) => Operands::One(operand),
+        Tree::Cat(left, _, right) => Operands::Two(left, right),
+        Tree::And(left, right) | Tree::Or(left, right) | Tree::Xor(left, right) => {
+            Operands::Two(left, right)
+        }
+        Tree::Equal(_, left, right) | Tree::Minus(_, left, right) => Operands::Two(left, right),
+        Tree::Cond(test, yes, no) => Operands::Three(test, yes, no),
+    }
 }

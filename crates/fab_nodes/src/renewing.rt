@@ -59,5 +59,4 @@ pub(crate) fn renew(
     requires long { length bits.old ≡ room tree.now }
     requires nodes { AreNodes (λ place. seen point.now.view.terns.now point.now.view.leads.now (point.now.first + place)) tree.now (map plain_tern bits.old) }
     ensures { AreNodes (λ place. seen point.now.view.terns.now point.now.view.leads.now (point.now.first + place)) tree.now (map plain_tern bits.new) }
-{
-}
+{}
