@@ -12,7 +12,7 @@ ghost use Rattle.fab_nodes.specs.Nodes.{room, AreNodes};
 ghost use Rattle.fab_nodes.specs.inner.Operands.{is_plain, HasOperands};
 
 use fab_base::Memory;
-use fab_compiled::{Tree, View, eval, whole_into};
+use fab_compiled::{Pairing, Tree, View, eval, whole_into};
 use fab_ternary::Tern;
 
 /// A bit of an expression by what is kept of its nodes, in a list that begins with its own values. A bit of a name or a constant is found at once.
@@ -76,12 +76,36 @@ pub(crate) fn is_leaf(tree: &Tree) -> bool
     }
 }
 
-/// The operands of an expression, the less significant part or the test first.
+/// An operator with one operand.
+#[derive(Clone, Copy, Debug)]
+pub(crate) enum Unary {
+    /// `~`, bit by bit.
+    Inverse,
+    /// The point that the operand picks: the place of the first, and how many bits the operand has.
+    Pick(u32, u32),
+}
+
+/// An operator with two operands.
+#[derive(Clone, Copy, Debug)]
+pub(crate) enum Binary {
+    /// The second behind the first, which is the less significant part.
+    Cat,
+    /// `&`, `|` or `^`, bit by bit.
+    Pair(Pairing),
+    /// `==`.
+    Equal,
+    /// `-`.
+    Minus,
+}
+
+/// The operands of an expression, and its operator.
 #[derive(Clone, Copy)]
 pub(crate) enum Operands<'t> {
+    /// A name, a part of one or a constant has none.
     None,
-    One(&'t Tree),
-    Two(&'t Tree, &'t Tree),
+    One(Unary, &'t Tree),
+    Two(Binary, &'t Tree, &'t Tree),
+    /// `?:`, with its test and its branches.
     Three(&'t Tree, &'t Tree, &'t Tree),
 }
 
@@ -91,12 +115,14 @@ pub(crate) fn operands_of(tree: &Tree) -> Operands<'_>
 {
     match tree {
         Tree::Const(_) | Tree::Bits(_, _) => Operands::None,
-        Tree::Pick(_, _, operand) | Tree::Not(operand) => Operands::One(operand),
-        Tree::Cat(left, _, right) => Operands::Two(left, right),
-        Tree::And(left, right) | Tree::Or(left, right) | Tree::Xor(left, right) => {
-            Operands::Two(left, right)
-        }
-        Tree::Equal(_, left, right) | Tree::Minus(_, left, right) => Operands::Two(left, right),
+        Tree::Pick(place, width, index) => Operands::One(Unary::Pick(*place, *width), index),
+        Tree::Not(operand) => Operands::One(Unary::Inverse, operand),
+        Tree::Cat(low, _, high) => Operands::Two(Binary::Cat, low, high),
+        Tree::And(left, right) => Operands::Two(Binary::Pair(Pairing::Both), left, right),
+        Tree::Or(left, right) => Operands::Two(Binary::Pair(Pairing::Either), left, right),
+        Tree::Xor(left, right) => Operands::Two(Binary::Pair(Pairing::Differs), left, right),
+        Tree::Equal(_, left, right) => Operands::Two(Binary::Equal, left, right),
+        Tree::Minus(_, left, right) => Operands::Two(Binary::Minus, left, right),
         Tree::Cond(test, yes, no) => Operands::Three(test, yes, no),
     }
 }
