@@ -1,2 +1,3 @@
--- What only contracts inside the crate cite: how its code walks. No call that it hands on rests on these files.
+-- What only contracts inside the crate cite. No call that it hands on rests on these files.
+pub mod Operands
 pub mod Renewing

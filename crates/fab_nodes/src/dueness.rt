@@ -1,24 +1,33 @@
 //! Operators that are found as a whole: when they are found anew.
 
-ghost use Rattle.std.specs.Prelude.{◌≡◌, ◌+◌, ◌^◌, ◌≤◌, length, map};
+ghost use Rattle.std.specs.Prelude.{◌≡◌, ◌+◌, ◌≤◌, length, map};
 ghost use Rattle.fab_solutions_laws.specs.Laws.{AreUnder};
 ghost use Rattle.fab_ternary.specs.Terns.{plain_tern};
 ghost use Rattle.fab_compiled.specs.Terns.{seen};
 ghost use Rattle.fab_compiled.specs.Trees.{tree_width};
 ghost use Rattle.fab_compiled.specs.Evaluation.{value_seen};
-ghost use Rattle.fab_nodes.specs.Nodes.{room, AreOperands, IsLaidOut};
+ghost use Rattle.fab_nodes.specs.Nodes.{room, AreNodes, AreOperands, IsLaidOut};
 ghost use Rattle.fab_nodes.specs.inner.Renewing.{AreBoth, IsRead};
 
 use crate::filling::{Spare, fill_own};
 use crate::layout::Layout;
-use crate::operands::operand_bit;
-use crate::pointwise::{Operand, bits_of_both, pair_of};
+use crate::operands::{Binary, Operands, operand_bit, operands_of};
+use crate::pointwise::{Operand, bits_of_both};
 use crate::renewing::{News, Renewed, push_numbers};
 use fab_base::Memory;
 use fab_compiled::{Tree, differs};
 use fab_ternary::Tern;
 
-/// Whether the first bit of a list is known. Then all bits of an operator that is found as a whole are.
+/// Whether an operator is found as a whole: all its bits are known together.
+pub(crate) fn is_whole(tree: &Tree) -> bool {
+    match tree {
+        Tree::Pick(_, _, _) | Tree::Equal(_, _, _) | Tree::Minus(_, _, _) => true,
+        Tree::Const(_) | Tree::Bits(_, _) | Tree::Cat(_, _, _) | Tree::Not(_) => false,
+        Tree::And(_, _) | Tree::Or(_, _) | Tree::Xor(_, _) | Tree::Cond(_, _, _) => false,
+    }
+}
+
+/// Whether the first bit of a list is known.
 pub(crate) fn is_found(own: &[Tern]) -> bool {
     match own.first() {
         Some(bit) => !bit.is_open(),
@@ -37,8 +46,8 @@ pub(crate) fn find_whole(
     own: &mut [Tern],
 )
     requires read { IsRead point.now.view.terns.now point.now.view.leads.now point.now.first tree.now layout.now }
-    requires long { length own.old + length operands.now ≡ room tree.now }
     requires width { length own.old ≡ tree_width tree.now }
+    requires long { tree_width tree.now + length operands.now ≡ room tree.now }
     requires operands { AreOperands (λ place. seen point.now.view.terns.now point.now.view.leads.now (point.now.first + place)) tree.now (map plain_tern operands.now) }
     requires own { AreUnder (map plain_tern own.old) (value_seen point.now.view.terns.now point.now.view.leads.now point.now.first tree.now) }
     ensures { AreUnder (map plain_tern own.new) (value_seen point.now.view.terns.now point.now.view.leads.now point.now.first tree.now) }
@@ -53,8 +62,7 @@ pub(crate) fn find_whole(
     }
 }
 
-/// Whether an operator is found anew as a whole: where its operands may tell more of it, and seldom enough that all such finds together take little more
-/// than the last one.
+/// Whether an operator is to be found anew as a whole: where its operands may tell more of it, and so seldom that all finds together take little more than one.
 pub(crate) fn is_due(
     tree: &Tree,
     layout: &Layout,
@@ -70,21 +78,30 @@ pub(crate) fn is_due(
     let Some(known) = news.known.get_mut(layout.node().number) else {
         return true;
     };
-    if let Some((left, right)) = pair_of(tree, layout) {
-        if is_equality(tree) && are_apart(left, right, point, &news.bits, mark, operands) {
-            return true;
+    match operands_of(tree) {
+        Operands::Two(operator, left, right) => {
+            let Layout::Two(_, of_left, of_right) = layout else {
+                return true;
+            };
+            let left = Operand::of(left, of_left);
+            let right = Operand::of(right, of_right);
+            if matches!(operator, Binary::Equal)
+                && are_apart(left, right, point, &news.bits, mark, operands)
+            {
+                return true;
+            }
+            *known = known_from(left, right, point, *known, operands);
+            *known >= common_width(left, right)
         }
-        let (from, end) = (*known, common_width(left, right));
-        *known = known_from(left, right, point, from, operands);
-        return *known >= end;
+        Operands::One(_, inner) => {
+            let Layout::One(_, of_inner) = layout else {
+                return true;
+            };
+            *known = known.saturating_add(1);
+            known.is_power_of_two() || is_all_known(Operand::of(inner, of_inner), point, operands)
+        }
+        Operands::None | Operands::Three(_, _, _) => true,
     }
-    *known = known.saturating_add(1);
-    known.is_power_of_two() || is_picked(tree, layout, point, operands)
-}
-
-// Whether an operator is an equality.
-fn is_equality(tree: &Tree) -> bool {
-    matches!(tree, Tree::Equal(_, _, _))
 }
 
 // How many bits both operands have.
@@ -98,7 +115,7 @@ fn common_width(left: Operand, right: Operand) -> u64
     width.min(right.layout.node().width) as u64
 }
 
-// How many bits of both operands are known from the first on, where that many are known already.
+// How many bits of both operands are known from the first on, where so many are known already.
 fn known_from(left: Operand, right: Operand, point: &Renewed, from: u64, operands: &[Tern]) -> u64
     requires left { IsRead point.now.view.terns.now point.now.view.leads.now point.now.first left.tree.now left.layout.now }
     requires right { IsRead point.now.view.terns.now point.now.view.leads.now point.now.first right.tree.now right.layout.now }
@@ -115,7 +132,7 @@ fn known_from(left: Operand, right: Operand, point: &Renewed, from: u64, operand
     width
 }
 
-// Whether one of the new bits of two operands, from the mark on, is known to differ.
+// Whether two operands are known to differ in one of the new bits, which stand from the mark on.
 fn are_apart(
     left: Operand,
     right: Operand,
@@ -142,17 +159,14 @@ fn are_apart(
     false
 }
 
-// Whether all bits of the index of a pick are known.
-fn is_picked(tree: &Tree, layout: &Layout, point: &Renewed, operands: &[Tern]) -> bool
-    requires read { IsRead point.now.view.terns.now point.now.view.leads.now point.now.first tree.now layout.now }
-    requires long { tree_width tree.now + length operands.now ≡ room tree.now }
-    requires operands { AreOperands (λ place. seen point.now.view.terns.now point.now.view.leads.now (point.now.first + place)) tree.now (map plain_tern operands.now) }
+// Whether all bits of an operand are known.
+fn is_all_known(operand: Operand, point: &Renewed, bits: &[Tern]) -> bool
+    requires read { IsRead point.now.view.terns.now point.now.view.leads.now point.now.first operand.tree.now operand.layout.now }
+    requires long { length bits.now ≡ room operand.tree.now }
+    requires nodes { AreNodes (λ place. seen point.now.view.terns.now point.now.view.leads.now (point.now.first + place)) operand.tree.now (map plain_tern bits.now) }
 {
-    let Tree::Pick(_, width, index) = tree else {
-        return true;
-    };
-    for bit in 0..u64::from(*width) {
-        if operand_bit(index, operands, bit, point.first, &point.view).is_open() {
+    for bit in 0..operand.layout.node().width as u64 {
+        if operand_bit(operand.tree, bits, bit, point.first, &point.view).is_open() {
             return false;
         }
     }

@@ -1,20 +1,21 @@
 //! Bits of an operator by those of its operands.
 
-ghost use Rattle.std.specs.Prelude.{◌≡◌, ◌+◌, ◌^◌, ◌<◌, ◌≤◌, length, map, IfSome};
+ghost use Rattle.std.specs.Prelude.{◌≡◌, ◌+◌, ◌<◌, ◌++◌, length, map};
 ghost use Rattle.fab_systems_laws.specs.Ternary.{IsBelow};
 ghost use Rattle.fab_solutions_laws.specs.Laws.{AreUnder};
 ghost use Rattle.fab_solutions_laws.specs.fab_ternary_laws_Operators.{tern_at};
 ghost use Rattle.fab_ternary.specs.Terns.{plain_tern};
+ghost use Rattle.fab_compiled.specs.Pairs.{by};
 ghost use Rattle.fab_compiled.specs.Terns.{seen};
-ghost use Rattle.fab_compiled.specs.Trees.{tree_width, IsMade};
+ghost use Rattle.fab_compiled.specs.Trees.{tree_width};
 ghost use Rattle.fab_compiled.specs.Evaluation.{value_seen};
 ghost use Rattle.fab_nodes.specs.Nodes.{room, AreOperands};
-ghost use Rattle.fab_nodes.specs.inner.Renewing.{AreBoth, AreLaidPair, ArePair, IsRead};
+ghost use Rattle.fab_nodes.specs.inner.Renewing.{AreBoth, IsRead};
 
 use crate::layout::Layout;
-use crate::operands::operand_bit;
+use crate::operands::{Binary, Operands, Unary, operand_bit, operands_of};
 use crate::renewing::{News, Renewed};
-use fab_compiled::{Tree, both, differs, either, inverse, through};
+use fab_compiled::{Pairing, Tree, agreed, both, differs, either, inverse, through};
 use fab_ternary::Tern;
 
 /// An operand, and where its values stand.
@@ -30,29 +31,6 @@ impl<'t> Operand<'t> {
         ensures layout { result.layout.now ≡ layout.now }
     {
         Operand { tree, layout }
-    }
-}
-
-/// The operands of an operator that has two of them.
-pub(crate) fn pair_of<'t>(tree: &'t Tree, layout: &'t Layout) -> Option<(Operand<'t>, Operand<'t>)>
-    ensures { IfSome result (λ pair. ArePair tree.now pair.0.tree.now pair.1.tree.now × AreLaidPair layout.now pair.0.layout.now pair.1.layout.now) }
-{
-    let Layout::Two(_, of_left, of_right) = layout else {
-        return None;
-    };
-    match tree {
-        Tree::Cat(left, _, right) => Some((
-            Operand::of(left, of_left),
-            Operand::of(right, of_right),
-        )),
-        Tree::And(left, right) | Tree::Or(left, right) | Tree::Xor(left, right) => {
-            Some((Operand::of(left, of_left), Operand::of(right, of_right)))
-        }
-        Tree::Equal(_, left, right) | Tree::Minus(_, left, right) => {
-            Some((Operand::of(left, of_left), Operand::of(right, of_right)))
-        }
-        Tree::Const(_) | Tree::Bits(_, _) | Tree::Pick(_, _, _) => None,
-        Tree::Not(_) | Tree::Cond(_, _, _) => None,
     }
 }
 
@@ -120,73 +98,55 @@ fn own_bit(tree: &Tree, layout: &Layout, point: &Renewed, bit: u64, operands: &[
     requires within { bit < tree_width tree.now }
     ensures { IsBelow (plain_tern result) (tern_at (value_seen point.now.view.terns.now point.now.view.leads.now point.now.first tree.now) bit) }
 {
-    if let Some((left, right)) = pair_of(tree, layout) {
-        return bit_of_pair(tree, left, right, point, bit, operands);
-    }
-    match tree {
-        Tree::Not(inner) => inverse(operand_bit(inner, operands, bit, point.first, &point.view)),
-        Tree::Cond(test, yes, no) => {
+    match operands_of(tree) {
+        Operands::None | Operands::One(Unary::Pick(_, _), _) => Tern::Open,
+        Operands::One(Unary::Inverse, inner) => {
+            inverse(operand_bit(inner, operands, bit, point.first, &point.view))
+        }
+        Operands::Two(operator, left, right) => {
+            let Layout::Two(_, of_left, of_right) = layout else {
+                return Tern::Open;
+            };
+            let left = Operand::of(left, of_left);
+            let right = Operand::of(right, of_right);
+            match operator {
+                Binary::Cat => bit_of_parts(left, right, point, bit, operands),
+                Binary::Pair(pairing) => {
+                    let (one, other) = bits_of_both(left, right, point, bit, operands);
+                    pair(pairing, one, other)
+                }
+                Binary::Equal | Binary::Minus => Tern::Open,
+            }
+        }
+        Operands::Three(test, yes, no) => {
             let Layout::Three(_, of_test, of_yes, of_no) = layout else {
                 return Tern::Open;
             };
+            let yes = Operand::of(yes, of_yes);
+            let no = Operand::of(no, of_no);
             let (of_test, branches) = operands.split_at(of_test.node().room);
             let test = operand_bit(test, of_test, 0, point.first, &point.view);
-            let (one, other) = bits_of_both(
-                Operand::of(yes, of_yes),
-                Operand::of(no, of_no),
-                point,
-                bit,
-                branches,
-            );
+            let (one, other) = bits_of_both(yes, no, point, bit, branches);
             through(test, one, other)
         }
-        Tree::Const(_) | Tree::Bits(_, _) | Tree::Pick(_, _, _) | Tree::Cat(_, _, _) => Tern::Open,
-        Tree::And(_, _) | Tree::Or(_, _) | Tree::Xor(_, _) => Tern::Open,
-        Tree::Equal(_, _, _) | Tree::Minus(_, _, _) => Tern::Open,
     }
 }
 
-// The same of an operator with two operands.
-fn bit_of_pair(
-    tree: &Tree,
-    left: Operand,
-    right: Operand,
-    point: &Renewed,
-    bit: u64,
-    operands: &[Tern],
-) -> Tern
-    requires pair { ArePair tree.now left.tree.now right.tree.now }
-    requires made { IsMade tree.now }
+// A bit of two parts, of which the second stands behind the first.
+fn bit_of_parts(left: Operand, right: Operand, point: &Renewed, bit: u64, operands: &[Tern]) -> Tern
     requires left { IsRead point.now.view.terns.now point.now.view.leads.now point.now.first left.tree.now left.layout.now }
     requires right { IsRead point.now.view.terns.now point.now.view.leads.now point.now.first right.tree.now right.layout.now }
     requires long { length operands.now ≡ room left.tree.now + room right.tree.now }
     requires nodes { AreBoth (λ place. seen point.now.view.terns.now point.now.view.leads.now (point.now.first + place)) left.tree.now right.tree.now (map plain_tern operands.now) }
-    requires within { bit < tree_width tree.now }
-    ensures { IsBelow (plain_tern result) (tern_at (value_seen point.now.view.terns.now point.now.view.leads.now point.now.first tree.now) bit) }
+    requires within { bit < tree_width left.tree.now + tree_width right.tree.now }
+    ensures { IsBelow (plain_tern result) (tern_at (value_seen point.now.view.terns.now point.now.view.leads.now point.now.first left.tree.now ++ value_seen point.now.view.terns.now point.now.view.leads.now point.now.first right.tree.now) bit) }
 {
-    match tree {
-        Tree::Cat(_, width, _) => {
-            let (of_left, of_right) = operands.split_at(left.layout.node().room);
-            if bit < *width {
-                operand_bit(left.tree, of_left, bit, point.first, &point.view)
-            } else {
-                operand_bit(right.tree, of_right, bit - *width, point.first, &point.view)
-            }
-        }
-        Tree::And(_, _) => {
-            let (one, other) = bits_of_both(left, right, point, bit, operands);
-            both(one, other)
-        }
-        Tree::Or(_, _) => {
-            let (one, other) = bits_of_both(left, right, point, bit, operands);
-            either(one, other)
-        }
-        Tree::Xor(_, _) => {
-            let (one, other) = bits_of_both(left, right, point, bit, operands);
-            differs(one, other)
-        }
-        Tree::Const(_) | Tree::Bits(_, _) | Tree::Pick(_, _, _) | Tree::Not(_) => Tern::Open,
-        Tree::Equal(_, _, _) | Tree::Minus(_, _, _) | Tree::Cond(_, _, _) => Tern::Open,
+    let width = left.layout.node().width as u64;
+    let (of_left, of_right) = operands.split_at(left.layout.node().room);
+    if bit < width {
+        operand_bit(left.tree, of_left, bit, point.first, &point.view)
+    } else {
+        operand_bit(right.tree, of_right, bit - width, point.first, &point.view)
     }
 }
 
@@ -211,4 +171,16 @@ pub(crate) fn bits_of_both(
     let one = operand_bit(left.tree, of_left, bit, point.first, &point.view);
     let other = operand_bit(right.tree, of_right, bit, point.first, &point.view);
     (one, other)
+}
+
+// Two bits in one.
+fn pair(pairing: Pairing, left: Tern, right: Tern) -> Tern
+    ensures { plain_tern result ≡ by pairing (plain_tern left) (plain_tern right) }
+{
+    match pairing {
+        Pairing::Both => both(left, right),
+        Pairing::Either => either(left, right),
+        Pairing::Differs => differs(left, right),
+        Pairing::Agreed => agreed(left, right),
+    }
 }

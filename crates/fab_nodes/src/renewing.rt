@@ -1,18 +1,21 @@
 //! What is known of the nodes of an expression by one more point. The walk goes down to the names that have the place of the point, and up again as long as
 //! bits come to be known.
 
-ghost use Rattle.std.specs.Prelude.{◌≡◌, ◌+◌, ◌^◌, ◌≤◌, length, map, take, drop};
+ghost use Rattle.std.specs.Prelude.{◌≡◌, ◌+◌, ◌^◌, ◌≤◌, false, length, map, take, drop};
+ghost use Rattle.fab_solutions_laws.specs.Laws.{AreUnder};
 ghost use Rattle.fab_ternary.specs.Terns.{plain_tern};
 ghost use Rattle.fab_compiled.specs.Terns.{seen, IsView};
 ghost use Rattle.fab_compiled.specs.Trees.{tree_width, IsMade};
-ghost use Rattle.fab_compiled.specs.Evaluation.{IsWithin};
+ghost use Rattle.fab_compiled.specs.Evaluation.{value_seen, IsWithin};
 ghost use Rattle.fab_nodes.specs.Nodes.{room, AreNodes, AreOperands, IsLaidOut};
-ghost use Rattle.fab_nodes.specs.inner.Renewing.{AreBoth, IsOperator, IsRead};
+ghost use Rattle.fab_nodes.specs.inner.Operands.{is_plain};
+ghost use Rattle.fab_nodes.specs.inner.Renewing.{AreBoth, IsRead};
 
-use crate::dueness::{find_whole, is_due, is_found};
+use crate::dueness::{find_whole, is_due, is_found, is_whole};
 use crate::filling::Spare;
 use crate::layout::Layout;
-use crate::pointwise::{Operand, pair_of, settle};
+use crate::operands::{Binary, Operands, is_leaf, operands_of};
+use crate::pointwise::{Operand, settle};
 use fab_base::Memory;
 use fab_compiled::{Tree, View};
 use fab_ternary::Tern;
@@ -70,75 +73,57 @@ pub(crate) fn renew(
     if place < node.low || place >= node.end {
         return;
     }
-    match tree {
-        Tree::Const(_) => {}
-        Tree::Bits(name, count) => push_place(place, *name, *count, &mut news.bits),
-        Tree::Pick(_, _, _) | Tree::Equal(_, _, _) | Tree::Minus(_, _, _) => {
-            renew_whole(tree, layout, point, spare, news, bits)
-        }
-        Tree::Cat(_, _, _) | Tree::Not(_) | Tree::And(_, _) => {
-            renew_pointwise(tree, layout, point, spare, news, bits)
-        }
-        Tree::Or(_, _) | Tree::Xor(_, _) | Tree::Cond(_, _, _) => {
-            renew_pointwise(tree, layout, point, spare, news, bits)
-        }
+    if is_leaf(tree) {
+        push_place(tree, place, &mut news.bits);
+        return;
     }
+    let (own, operands) = bits.split_at_mut(node.width);
+    renew_operator(tree, layout, point, spare, news, operands, own);
 }
 
-// A bit of a name: the one at the place.
-fn push_place(place: u64, name: u32, count: u32, bits: &mut Vec<u32>) {
-    let Some(bit) = place.checked_sub(u64::from(name)) else {
+// The bit of a name that stands at the place.
+fn push_place(tree: &Tree, place: u64, bits: &mut Vec<u32>) {
+    let Tree::Bits(name, count) = tree else {
         return;
     };
-    if bit < u64::from(count) {
+    let Some(bit) = place.checked_sub(u64::from(*name)) else {
+        return;
+    };
+    if bit < u64::from(*count) {
         let _ = bits.push(bit as u32);
     }
 }
 
-// The same of an operator of which each bit is found by those of its operands with the same number.
+// The same of an operator, whose own values stand apart from those of its operands. Where one that is found as a whole is known, its operands do not matter.
 #[cycle(renewing)]
-fn renew_pointwise(
+fn renew_operator(
     tree: &Tree,
     layout: &Layout,
     point: &Renewed,
     spare: &mut Spare,
     news: &mut News,
-    bits: &mut [Tern],
+    operands: &mut [Tern],
+    own: &mut [Tern],
 )
-    requires operator { IsOperator tree.now }
+    requires operator { is_plain tree.now ≡ false }
     requires read { IsRead point.now.view.terns.now point.now.view.leads.now point.now.first tree.now layout.now }
-    requires long { length bits.old ≡ room tree.now }
-    requires nodes { AreNodes (λ place. seen point.now.view.terns.now point.now.view.leads.now (point.now.first + place)) tree.now (map plain_tern bits.old) }
-    ensures { AreNodes (λ place. seen point.now.view.terns.now point.now.view.leads.now (point.now.first + place)) tree.now (map plain_tern bits.new) }
+    requires width { length own.old ≡ tree_width tree.now }
+    requires long { tree_width tree.now + length operands.old ≡ room tree.now }
+    requires operands { AreOperands (λ place. seen point.now.view.terns.now point.now.view.leads.now (point.now.first + place)) tree.now (map plain_tern operands.old) }
+    requires own { AreUnder (map plain_tern own.old) (value_seen point.now.view.terns.now point.now.view.leads.now point.now.first tree.now) }
+    ensures operands { AreOperands (λ place. seen point.now.view.terns.now point.now.view.leads.now (point.now.first + place)) tree.now (map plain_tern operands.new) }
+    ensures own { AreUnder (map plain_tern own.new) (value_seen point.now.view.terns.now point.now.view.leads.now point.now.first tree.now) }
 {
-    let (own, operands) = bits.split_at_mut(layout.node().width);
-    let mark = news.bits.len();
-    renew_operands(tree, layout, point, spare, news, operands);
-    settle(tree, layout, point, news, mark, operands, own);
-}
-
-// The same of one that is found as a whole. Where it is known, what it is found by does not matter any more.
-#[cycle(renewing)]
-fn renew_whole(
-    tree: &Tree,
-    layout: &Layout,
-    point: &Renewed,
-    spare: &mut Spare,
-    news: &mut News,
-    bits: &mut [Tern],
-)
-    requires operator { IsOperator tree.now }
-    requires read { IsRead point.now.view.terns.now point.now.view.leads.now point.now.first tree.now layout.now }
-    requires long { length bits.old ≡ room tree.now }
-    requires nodes { AreNodes (λ place. seen point.now.view.terns.now point.now.view.leads.now (point.now.first + place)) tree.now (map plain_tern bits.old) }
-    ensures { AreNodes (λ place. seen point.now.view.terns.now point.now.view.leads.now (point.now.first + place)) tree.now (map plain_tern bits.new) }
-{
-    let (own, operands) = bits.split_at_mut(layout.node().width);
-    if is_found(own) {
+    let whole = is_whole(tree);
+    if whole && is_found(own) {
         return;
     }
     let mark = news.bits.len();
     renew_operands(tree, layout, point, spare, news, operands);
+    if !whole {
+        settle(tree, layout, point, news, mark, operands, own);
+        return;
+    }
     let due = is_due(tree, layout, point, news, mark, operands);
     news.bits.truncate(mark);
     if due {
@@ -154,36 +139,41 @@ fn renew_operands(
     point: &Renewed,
     spare: &mut Spare,
     news: &mut News,
-    bits: &mut [Tern],
+    operands: &mut [Tern],
 )
     requires read { IsRead point.now.view.terns.now point.now.view.leads.now point.now.first tree.now layout.now }
-    requires long { tree_width tree.now + length bits.old ≡ room tree.now }
-    requires operands { AreOperands (λ place. seen point.now.view.terns.now point.now.view.leads.now (point.now.first + place)) tree.now (map plain_tern bits.old) }
-    ensures { AreOperands (λ place. seen point.now.view.terns.now point.now.view.leads.now (point.now.first + place)) tree.now (map plain_tern bits.new) }
+    requires long { tree_width tree.now + length operands.old ≡ room tree.now }
+    requires operands { AreOperands (λ place. seen point.now.view.terns.now point.now.view.leads.now (point.now.first + place)) tree.now (map plain_tern operands.old) }
+    ensures { AreOperands (λ place. seen point.now.view.terns.now point.now.view.leads.now (point.now.first + place)) tree.now (map plain_tern operands.new) }
 {
-    if let Some((left, right)) = pair_of(tree, layout) {
-        let middle = renew_two(left, right, point, spare, news, bits);
-        number_behind(tree, middle, &mut news.bits);
-        return;
-    }
-    match tree {
-        Tree::Pick(_, _, inner) | Tree::Not(inner) => {
+    match operands_of(tree) {
+        Operands::None => {}
+        Operands::One(_, inner) => {
             let Layout::One(_, of_inner) = layout else {
                 return;
             };
-            renew(inner, of_inner, point, spare, news, bits);
+            renew(inner, of_inner, point, spare, news, operands);
         }
-        Tree::Cond(test, yes, no) => {
+        Operands::Two(operator, left, right) => {
+            let Layout::Two(_, of_left, of_right) = layout else {
+                return;
+            };
+            let left = Operand::of(left, of_left);
+            let right = Operand::of(right, of_right);
+            let middle = renew_two(left, right, point, spare, news, operands);
+            if matches!(operator, Binary::Cat) {
+                number_behind(left.layout.node().width, middle, &mut news.bits);
+            }
+        }
+        Operands::Three(test, yes, no) => {
             let Layout::Three(_, of_test, of_yes, of_no) = layout else {
                 return;
             };
             let test = Operand::of(test, of_test);
             let yes = Operand::of(yes, of_yes);
             let no = Operand::of(no, of_no);
-            renew_cond(test, yes, no, point, spare, news, bits);
+            renew_cond(test, yes, no, point, spare, news, operands);
         }
-        Tree::Const(_) | Tree::Bits(_, _) | Tree::Cat(_, _, _) | Tree::And(_, _) => {}
-        Tree::Or(_, _) | Tree::Xor(_, _) | Tree::Equal(_, _, _) | Tree::Minus(_, _, _) => {}
     }
 }
 
@@ -242,7 +232,7 @@ fn renew_cond(
     }
 }
 
-// Numbers from 0 on.
+/// Puts numbers from 0 on behind a list. Where memory is refused, there are fewer.
 pub(crate) fn push_numbers(count: usize, bits: &mut Vec<u32>) {
     for bit in 0..u32::try_from(count).unwrap_or(u32::MAX) {
         if bits.push(bit).is_err() {
@@ -251,12 +241,9 @@ pub(crate) fn push_numbers(count: usize, bits: &mut Vec<u32>) {
     }
 }
 
-// The bits of a more significant part, from the middle on, stand behind those of the less significant one.
-fn number_behind(tree: &Tree, middle: usize, bits: &mut Vec<u32>) {
-    let Tree::Cat(_, width, _) = tree else {
-        return;
-    };
-    let width = u32::try_from(*width).unwrap_or(u32::MAX);
+// The bits of a more significant part, from the middle on, stand behind those of the less significant one, which has so many.
+fn number_behind(width: usize, middle: usize, bits: &mut Vec<u32>) {
+    let width = u32::try_from(width).unwrap_or(u32::MAX);
     for next in middle..bits.len() {
         if let Some(bit) = bits.get_mut(next) {
             *bit = bit.saturating_add(width);
