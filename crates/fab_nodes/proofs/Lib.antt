@@ -1,1 +1,3 @@
 pub mod NodesGrow
+pub mod Parts
+pub mod Walking

@@ -108,8 +108,8 @@ pub(crate) fn is_due(
 fn common_width(left: Operand, right: Operand) -> u64
     requires left { IsLaidOut left.tree.now left.layout.now }
     requires right { IsLaidOut right.tree.now right.layout.now }
-    ensures left { result ≤ tree_width left.tree.now }
-    ensures right { result ≤ tree_width right.tree.now }
+    ensures left { result ≤ tree_width left.entry.tree.now }
+    ensures right { result ≤ tree_width right.entry.tree.now }
 {
     let width = left.layout.node().width;
     width.min(right.layout.node().width) as u64

@@ -82,7 +82,7 @@ fn settle_bit(
     if place >= own.len() || !own[place].is_open() {
         return false;
     }
-    let found = own_bit(tree, layout, point, u64::from(number), operands);
+    let found = own_bit(tree, layout, point, place as u64, operands);
     if found.is_open() {
         return false;
     }
@@ -139,7 +139,7 @@ fn bit_of_parts(left: Operand, right: Operand, point: &Renewed, bit: u64, operan
     requires long { length operands.now ≡ room left.tree.now + room right.tree.now }
     requires nodes { AreBoth (λ place. seen point.now.view.terns.now point.now.view.leads.now (point.now.first + place)) left.tree.now right.tree.now (map plain_tern operands.now) }
     requires within { bit < tree_width left.tree.now + tree_width right.tree.now }
-    ensures { IsBelow (plain_tern result) (tern_at (value_seen point.now.view.terns.now point.now.view.leads.now point.now.first left.tree.now ++ value_seen point.now.view.terns.now point.now.view.leads.now point.now.first right.tree.now) bit) }
+    ensures { IsBelow (plain_tern result) (tern_at (value_seen point.now.view.terns.now point.now.view.leads.now point.now.first left.entry.tree.now ++ value_seen point.now.view.terns.now point.now.view.leads.now point.now.first right.entry.tree.now) bit) }
 {
     let width = left.layout.node().width as u64;
     let (of_left, of_right) = operands.split_at(left.layout.node().room);
@@ -164,8 +164,8 @@ pub(crate) fn bits_of_both(
     requires nodes { AreBoth (λ place. seen point.now.view.terns.now point.now.view.leads.now (point.now.first + place)) left.tree.now right.tree.now (map plain_tern operands.now) }
     requires left_within { bit < tree_width left.tree.now }
     requires right_within { bit < tree_width right.tree.now }
-    ensures left { IsBelow (plain_tern result.0) (tern_at (value_seen point.now.view.terns.now point.now.view.leads.now point.now.first left.tree.now) bit) }
-    ensures right { IsBelow (plain_tern result.1) (tern_at (value_seen point.now.view.terns.now point.now.view.leads.now point.now.first right.tree.now) bit) }
+    ensures left { IsBelow (plain_tern result.0) (tern_at (value_seen point.now.view.terns.now point.now.view.leads.now point.now.first left.entry.tree.now) bit) }
+    ensures right { IsBelow (plain_tern result.1) (tern_at (value_seen point.now.view.terns.now point.now.view.leads.now point.now.first right.entry.tree.now) bit) }
 {
     let (of_left, of_right) = operands.split_at(left.layout.node().room);
     let one = operand_bit(left.tree, of_left, bit, point.first, &point.view);

@@ -191,7 +191,7 @@ fn renew_two(
     requires right { IsRead point.now.view.terns.now point.now.view.leads.now point.now.first right.tree.now right.layout.now }
     requires long { length bits.old ≡ room left.tree.now + room right.tree.now }
     requires nodes { AreBoth (λ place. seen point.now.view.terns.now point.now.view.leads.now (point.now.first + place)) left.tree.now right.tree.now (map plain_tern bits.old) }
-    ensures { AreBoth (λ place. seen point.now.view.terns.now point.now.view.leads.now (point.now.first + place)) left.tree.now right.tree.now (map plain_tern bits.new) }
+    ensures { AreBoth (λ place. seen point.now.view.terns.now point.now.view.leads.now (point.now.first + place)) left.entry.tree.now right.entry.tree.now (map plain_tern bits.new) }
 {
     let (of_left, of_right) = bits.split_at_mut(left.layout.node().room);
     renew(left.tree, left.layout, point, spare, news, of_left);
@@ -217,8 +217,8 @@ fn renew_cond(
     requires long { length bits.old ≡ room test.tree.now + (room yes.tree.now + room no.tree.now) }
     requires of_test { AreNodes (λ place. seen point.now.view.terns.now point.now.view.leads.now (point.now.first + place)) test.tree.now (take (room test.tree.now) (map plain_tern bits.old)) }
     requires branches { AreBoth (λ place. seen point.now.view.terns.now point.now.view.leads.now (point.now.first + place)) yes.tree.now no.tree.now (drop (room test.tree.now) (map plain_tern bits.old)) }
-    ensures of_test { AreNodes (λ place. seen point.now.view.terns.now point.now.view.leads.now (point.now.first + place)) test.tree.now (take (room test.tree.now) (map plain_tern bits.new)) }
-    ensures branches { AreBoth (λ place. seen point.now.view.terns.now point.now.view.leads.now (point.now.first + place)) yes.tree.now no.tree.now (drop (room test.tree.now) (map plain_tern bits.new)) }
+    ensures of_test { AreNodes (λ place. seen point.now.view.terns.now point.now.view.leads.now (point.now.first + place)) test.entry.tree.now (take (room test.entry.tree.now) (map plain_tern bits.new)) }
+    ensures branches { AreBoth (λ place. seen point.now.view.terns.now point.now.view.leads.now (point.now.first + place)) yes.entry.tree.now no.entry.tree.now (drop (room test.entry.tree.now) (map plain_tern bits.new)) }
 {
     let (of_test, branches) = bits.split_at_mut(test.layout.node().room);
     let mark = news.bits.len();

@@ -16,7 +16,7 @@ pub record IsRead (terns : List Tern) (leads : List ℕ) (first : ℕ) (tree : T
   pub few : length leads ≤ 2 ^ 32
   pub begins : first ≤ length leads
   pub inside : IsWithin tree first (length leads)
-  pub layout : IsLaidOut tree layout
+  pub laid : IsLaidOut tree layout
 
 -- What is kept of two expressions stands one behind the other.
 abbrev pub AreBoth : (at : ℕ → PlainTern) → (left right : Tree) → List PlainTern → Type 0
