@@ -1,1 +1,2 @@
 pub mod NodesGrow
+pub mod Parts

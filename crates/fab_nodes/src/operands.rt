@@ -9,7 +9,7 @@ ghost use Rattle.fab_compiled.specs.Terns.{seen, IsView};
 ghost use Rattle.fab_compiled.specs.Trees.{tree_width, IsMade};
 ghost use Rattle.fab_compiled.specs.Evaluation.{value_seen, IsWithin};
 ghost use Rattle.fab_nodes.specs.Nodes.{room, AreNodes};
-ghost use Rattle.fab_nodes.specs.inner.Operands.{is_plain, HasOperands};
+ghost use Rattle.fab_nodes.specs.inner.Operands.{handed, is_plain, parts};
 
 use fab_base::Memory;
 use fab_compiled::{Pairing, Tree, View, eval, whole_into};
@@ -111,7 +111,7 @@ pub(crate) enum Operands<'t> {
 
 /// The operands of an expression.
 pub(crate) fn operands_of(tree: &Tree) -> Operands<'_>
-    ensures { HasOperands tree.now result }
+    ensures { parts tree.now ≡ handed result }
 {
     match tree {
         Tree::Const(_) | Tree::Bits(_, _) => Operands::None,
