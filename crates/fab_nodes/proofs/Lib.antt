@@ -1,2 +1,3 @@
 pub mod NodesGrow
 pub mod Parts
+pub mod Kept

@@ -1,5 +1,5 @@
 -- What holds of an expression by its operator and operands: eleven forms are four.
-use Rattle.std.proofs.Common.{◌≡◌, ℕ, ◌+◌, ◌<◌, ◌≤◌, true, false, List, take, drop, refl, sym, ap, ◌∙◌, subst, arith, absurd, tt}
+use Rattle.std.proofs.Common.{◌≡◌, ℕ, ◌+◌, ◌<◌, ◌≤◌, true, false, List, take, drop, refl, sym, ap, ◌∙◌, subst, arith}
 use Rattle.std.proofs.lemmas.Bool.{false≢true}
 use Rattle.fab_systems_laws.specs.Ternary.{Tern as PlainTern}
 use Rattle.fab_solutions_laws.specs.fab_ternary_laws_Operators.{one_of, tern_at}
@@ -14,7 +14,7 @@ use Rattle.fab_nodes.specs.Nodes.{room, AreNodes, AreOperands, IsLaidOut, IsNode
 use Rattle.fab_nodes.specs.inner.Operands.{is_plain, joined, joined_width, made_of, made_width, none, one, parts, three, two, AreWide, IsTableWithin, IsWide, Parts}
 
 pub record HasNone (tree : Tree) : Type 0 where
-  pub room : room tree ≡ 0
+  pub rooms : room tree ≡ 0
   pub nodes : (at : ℕ → PlainTern) (ts : List PlainTern) → AreNodes at tree ts
   pub operands : (at : ℕ → PlainTern) (ts : List PlainTern) → AreOperands at tree ts
 
@@ -23,7 +23,7 @@ pub record HasOne (tree : Tree) (operator : Unary) (a : Tree) : Type 0 where
   pub made : IsMade tree → IsMade a
   pub wide : IsMade tree → IsWide operator (tree_width a)
   pub width : tree_width tree ≡ made_width operator (tree_width a)
-  pub room : room tree ≡ tree_width tree + room a
+  pub rooms : room tree ≡ tree_width tree + room a
   pub below : (bound : ℕ) → IsBelowPlace bound tree → IsBelowPlace bound a
   pub table : (bound : ℕ) → IsBelowPlace bound tree → IsTableWithin bound operator
   pub value : (at : ℕ → PlainTern) → tree_value at tree ≡ made_of at operator (tree_value at a)
@@ -35,7 +35,7 @@ pub record HasTwo (tree : Tree) (operator : Binary) (a b : Tree) : Type 0 where
   pub made : IsMade tree → IsMade a × IsMade b
   pub wide : IsMade tree → AreWide operator (tree_width a) (tree_width b)
   pub width : IsMade tree → tree_width tree ≡ joined_width operator (tree_width a) (tree_width b)
-  pub room : room tree ≡ tree_width tree + (room a + room b)
+  pub rooms : room tree ≡ tree_width tree + (room a + room b)
   pub below : (bound : ℕ) → IsBelowPlace bound tree → IsBelowPlace bound a × IsBelowPlace bound b
   pub value : (at : ℕ → PlainTern) → tree_value at tree ≡ joined operator (tree_value at a) (tree_value at b)
   pub operands : (at : ℕ → PlainTern) (ts : List PlainTern) → AreNodes at a (take (room a) ts) × AreNodes at b (drop (room a) ts) → AreOperands at tree ts
@@ -50,7 +50,7 @@ pub record HasThree (tree c a b : Tree) : Type 0 where
   pub made : IsMade tree → IsMade c × IsMade a × IsMade b
   pub wide : IsMade tree → (tree_width c ≡ 1) × (tree_width a ≡ tree_width b)
   pub width : tree_width tree ≡ tree_width a
-  pub room : room tree ≡ tree_width tree + (room c + (room a + room b))
+  pub rooms : room tree ≡ tree_width tree + (room c + (room a + room b))
   pub below : (bound : ℕ) → IsBelowPlace bound tree → IsBelowPlace bound c × IsBelowPlace bound a × IsBelowPlace bound b
   pub value : (at : ℕ → PlainTern) → tree_value at tree ≡ one_of (tern_at (tree_value at c) 0) (tree_value at a) (tree_value at b)
   pub operands : (at : ℕ → PlainTern) (ts : List PlainTern) → AreThree at c a b ts → AreOperands at tree ts
@@ -63,14 +63,14 @@ Has tree (two operator a b) = HasTwo tree operator a b
 Has tree (three c a b) = HasThree tree c a b
 
 has : (tree : Tree) → Has tree (parts tree)
-has (Const bits) = record { room = refl; nodes = λ at ts. tt; operands = λ at ts. tt }
-has (Bits first count) = record { room = refl; nodes = λ at ts. tt; operands = λ at ts. tt }
+has (Const bits) = record { rooms = refl; nodes = λ at ts. tt; operands = λ at ts. tt }
+has (Bits first count) = record { rooms = refl; nodes = λ at ts. tt; operands = λ at ts. tt }
 has (Pick' first width p index) = record {
   smaller = omega arith;
   made = λ m. m.2;
   wide = λ m. (m.0, m.1);
   width = refl;
-  room = refl;
+  rooms = refl;
   below = λ bound h. h.1;
   table = λ bound h. h.0;
   value = λ at. refl;
@@ -82,7 +82,7 @@ has (Not' p e) = record {
   made = λ m. m;
   wide = λ m. tt;
   width = refl;
-  room = refl;
+  rooms = refl;
   below = λ bound h. h;
   table = λ bound h. tt;
   value = λ at. refl;
@@ -94,7 +94,7 @@ has (Cat' p low width q high) = record {
   made = λ m. m.1;
   wide = λ m. tt;
   width = λ m. omega (arith, m.0);
-  room = refl;
+  rooms = refl;
   below = λ bound h. h;
   value = λ at. refl;
   operands = λ at ts h. h;
@@ -105,7 +105,7 @@ has (And' p a q b) = record {
   made = λ m. m.1;
   wide = λ m. m.0;
   width = λ m. refl;
-  room = refl;
+  rooms = refl;
   below = λ bound h. h;
   value = λ at. refl;
   operands = λ at ts h. h;
@@ -116,7 +116,7 @@ has (Or' p a q b) = record {
   made = λ m. m.1;
   wide = λ m. m.0;
   width = λ m. refl;
-  room = refl;
+  rooms = refl;
   below = λ bound h. h;
   value = λ at. refl;
   operands = λ at ts h. h;
@@ -127,7 +127,7 @@ has (Xor' p a q b) = record {
   made = λ m. m.1;
   wide = λ m. m.0;
   width = λ m. refl;
-  room = refl;
+  rooms = refl;
   below = λ bound h. h;
   value = λ at. refl;
   operands = λ at ts h. h;
@@ -138,7 +138,7 @@ has (Equal' width p a q b) = record {
   made = λ m. m.2;
   wide = λ m. m.0 ∙ sym m.1;
   width = λ m. refl;
-  room = refl;
+  rooms = refl;
   below = λ bound h. h;
   value = λ at. refl;
   operands = λ at ts h. h;
@@ -149,7 +149,7 @@ has (Minus' width p a q b) = record {
   made = λ m. m.2;
   wide = λ m. m.0 ∙ sym m.1;
   width = λ m. sym m.0;
-  room = refl;
+  rooms = refl;
   below = λ bound h. h;
   value = λ at. refl;
   operands = λ at ts h. h;
@@ -160,7 +160,7 @@ has (Cond' p c q a r b) = record {
   made = λ m. m.2;
   wide = λ m. (m.0, m.1);
   width = refl;
-  room = refl;
+  rooms = refl;
   below = λ bound h. h;
   value = λ at. refl;
   operands = λ at ts h. h;
@@ -249,13 +249,13 @@ module _ (at : ℕ → PlainTern) where
   nodes_from (Bits first count) ts h own rest = tt
   nodes_from (Pick' first width p index) ts h own rest = (own, rest)
   nodes_from (Not' p e) ts h own rest = (own, rest)
-  nodes_from (Cat' p low width q high) ts h own rest = (own, rest)
-  nodes_from (And' p a q b) ts h own rest = (own, rest)
-  nodes_from (Or' p a q b) ts h own rest = (own, rest)
-  nodes_from (Xor' p a q b) ts h own rest = (own, rest)
-  nodes_from (Equal' width p a q b) ts h own rest = (own, rest)
-  nodes_from (Minus' width p a q b) ts h own rest = (own, rest)
-  nodes_from (Cond' p c q a r b) ts h own rest = (own, rest)
+  nodes_from (Cat' p low width q high) ts h own rest = (own, rest.0, rest.1)
+  nodes_from (And' p a q b) ts h own rest = (own, rest.0, rest.1)
+  nodes_from (Or' p a q b) ts h own rest = (own, rest.0, rest.1)
+  nodes_from (Xor' p a q b) ts h own rest = (own, rest.0, rest.1)
+  nodes_from (Equal' width p a q b) ts h own rest = (own, rest.0, rest.1)
+  nodes_from (Minus' width p a q b) ts h own rest = (own, rest.0, rest.1)
+  nodes_from (Cond' p c q a r b) ts h own rest = (own, rest.0, rest.1, rest.2)
 
   pub nodes_own : (tree : Tree) (ts : List PlainTern) → is_plain tree ≡ false → AreNodes at tree ts → AreUnder (take (tree_width tree) ts) (tree_value at tree)
   nodes_own (Const bits) ts h nodes = absurd (false≢true (sym h))
@@ -275,13 +275,13 @@ module _ (at : ℕ → PlainTern) where
   nodes_operands (Bits first count) ts h nodes = tt
   nodes_operands (Pick' first width p index) ts h nodes = nodes.1
   nodes_operands (Not' p e) ts h nodes = nodes.1
-  nodes_operands (Cat' p low width q high) ts h nodes = nodes.1
-  nodes_operands (And' p a q b) ts h nodes = nodes.1
-  nodes_operands (Or' p a q b) ts h nodes = nodes.1
-  nodes_operands (Xor' p a q b) ts h nodes = nodes.1
-  nodes_operands (Equal' width p a q b) ts h nodes = nodes.1
-  nodes_operands (Minus' width p a q b) ts h nodes = nodes.1
-  nodes_operands (Cond' p c q a r b) ts h nodes = nodes.1
+  nodes_operands (Cat' p low width q high) ts h nodes = (nodes.1, nodes.2)
+  nodes_operands (And' p a q b) ts h nodes = (nodes.1, nodes.2)
+  nodes_operands (Or' p a q b) ts h nodes = (nodes.1, nodes.2)
+  nodes_operands (Xor' p a q b) ts h nodes = (nodes.1, nodes.2)
+  nodes_operands (Equal' width p a q b) ts h nodes = (nodes.1, nodes.2)
+  nodes_operands (Minus' width p a q b) ts h nodes = (nodes.1, nodes.2)
+  nodes_operands (Cond' p c q a r b) ts h nodes = (nodes.1, nodes.2, nodes.3)
 
   pub nodes_plain : (tree : Tree) (ts : List PlainTern) → is_plain tree ≡ true → AreNodes at tree ts
   nodes_plain (Const bits) ts h = tt
