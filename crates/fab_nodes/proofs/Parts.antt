@@ -7,6 +7,7 @@ use Rattle.fab_solutions_laws.specs.Laws.{AreUnder}
 use Rattle.fab_compiled.specs.declared.tree.Tree.{Tree, Const, Bits, Pick', Cat', Not', And', Or', Xor', Equal', Minus', Cond'}
 use Rattle.fab_compiled.specs.Trees.{tree_value, tree_width, IsMade, IsBelowPlace}
 use Rattle.fab_compiled.proofs.Sizes.{tree_size}
+use Rattle.fab_nodes.specs.declared.layout.Node.{Node}
 use Rattle.fab_nodes.specs.declared.layout.Layout.{Layout, Leaf, One', Two', Three'}
 use Rattle.fab_nodes.specs.declared.operands.Unary.{Unary}
 use Rattle.fab_nodes.specs.declared.operands.Binary.{Binary}
@@ -91,7 +92,7 @@ has (Not' p e) = record {
 }
 has (Cat' p low width q high) = record {
   smaller = omega arith;
-  made = λ m. m.1;
+  made = λ m. (m.1, m.2);
   wide = λ m. tt;
   width = λ m. omega (arith, m.0);
   rooms = refl;
@@ -102,7 +103,7 @@ has (Cat' p low width q high) = record {
 }
 has (And' p a q b) = record {
   smaller = omega arith;
-  made = λ m. m.1;
+  made = λ m. (m.1, m.2);
   wide = λ m. m.0;
   width = λ m. refl;
   rooms = refl;
@@ -113,7 +114,7 @@ has (And' p a q b) = record {
 }
 has (Or' p a q b) = record {
   smaller = omega arith;
-  made = λ m. m.1;
+  made = λ m. (m.1, m.2);
   wide = λ m. m.0;
   width = λ m. refl;
   rooms = refl;
@@ -124,7 +125,7 @@ has (Or' p a q b) = record {
 }
 has (Xor' p a q b) = record {
   smaller = omega arith;
-  made = λ m. m.1;
+  made = λ m. (m.1, m.2);
   wide = λ m. m.0;
   width = λ m. refl;
   rooms = refl;
@@ -135,7 +136,7 @@ has (Xor' p a q b) = record {
 }
 has (Equal' width p a q b) = record {
   smaller = omega arith;
-  made = λ m. m.2;
+  made = λ m. (m.2, m.3);
   wide = λ m. m.0 ∙ sym m.1;
   width = λ m. refl;
   rooms = refl;
@@ -146,7 +147,7 @@ has (Equal' width p a q b) = record {
 }
 has (Minus' width p a q b) = record {
   smaller = omega arith;
-  made = λ m. m.2;
+  made = λ m. (m.2, m.3);
   wide = λ m. m.0 ∙ sym m.1;
   width = λ m. sym m.0;
   rooms = refl;
@@ -157,7 +158,7 @@ has (Minus' width p a q b) = record {
 }
 has (Cond' p c q a r b) = record {
   smaller = omega arith;
-  made = λ m. m.2;
+  made = λ m. (m.2, m.3, m.4);
   wide = λ m. (m.0, m.1);
   width = refl;
   rooms = refl;
@@ -239,6 +240,34 @@ laid_from tree operands layout is h = subst (λ X. X) (laid_out tree layout) (su
 
 pub laid_as : (tree : Tree) (operands : Parts) (layout : Layout) → parts tree ≡ operands → IsLaidOut tree layout → IsLaid tree operands layout
 laid_as tree operands layout is h = subst (λ (p : Parts). IsLaid tree p layout) is (subst (λ X. X) (sym (laid_out tree layout)) h)
+
+-- what is told of a layout as a whole
+abbrev pub node_in : Layout → Node
+node_in (Leaf node) = node
+node_in (One' node x l) = node
+node_in (Two' node x l y m) = node
+node_in (Three' node x l y m z n) = node
+
+laid_node : (tree : Tree) (operands : Parts) (layout : Layout) → IsLaid tree operands layout → IsNodeOf tree (node_in layout)
+laid_node tree none (Leaf node) h = h
+laid_node tree none (One' node x l) h = absurd h
+laid_node tree none (Two' node x l y m) h = absurd h
+laid_node tree none (Three' node x l y m z n) h = absurd h
+laid_node tree (one operator a) (Leaf node) h = absurd h
+laid_node tree (one operator a) (One' node x l) h = h.0
+laid_node tree (one operator a) (Two' node x l y m) h = absurd h
+laid_node tree (one operator a) (Three' node x l y m z n) h = absurd h
+laid_node tree (two operator a b) (Leaf node) h = absurd h
+laid_node tree (two operator a b) (One' node x l) h = absurd h
+laid_node tree (two operator a b) (Two' node x l y m) h = h.0
+laid_node tree (two operator a b) (Three' node x l y m z n) h = absurd h
+laid_node tree (three c a b) (Leaf node) h = absurd h
+laid_node tree (three c a b) (One' node x l) h = absurd h
+laid_node tree (three c a b) (Two' node x l y m) h = absurd h
+laid_node tree (three c a b) (Three' node x l y m z n) h = h.0
+
+pub node_of : (tree : Tree) (layout : Layout) → IsLaidOut tree layout → IsNodeOf tree (node_in layout)
+node_of tree layout h = laid_node tree (parts tree) layout (laid_as tree (parts tree) layout refl h)
 
 -- ---- the values of a node are the first ones, and behind them are those of its operands
 

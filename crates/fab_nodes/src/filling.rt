@@ -1,6 +1,6 @@
 //! All values of the nodes of an expression at once.
 
-ghost use Rattle.std.specs.Prelude.{◌≡◌, ◌+◌, ◌-◌, ◌^◌, ◌≤◌, length, map, OnOk};
+ghost use Rattle.std.specs.Prelude.{◌≡◌, ◌+◌, ◌-◌, ◌^◌, ◌≤◌, length, map, OnErr, OnOk};
 ghost use Rattle.fab_solutions_laws.specs.Laws.{AreUnder};
 ghost use Rattle.fab_ternary.specs.Terns.{plain_tern};
 ghost use Rattle.fab_compiled.specs.Terns.{seen, IsView};
@@ -129,7 +129,7 @@ pub(crate) fn fill_own(
     requires width { length own.old ≡ tree_width tree.now }
     requires operands { AreOperands (λ place. seen view.now.terns.now view.now.leads.now (first + place)) tree.now (map plain_tern operands.now) }
     ensures found { OnOk result (AreUnder (map plain_tern own.new) (value_seen view.now.terns.now view.now.leads.now first tree.now)) }
-    ensures stays { result ≡ Err Memory → own.new ≡ own.old }
+    ensures stays { OnErr result (own.new ≡ own.old) }
 {
     match operands_of(tree) {
         Operands::None => Ok(()),
@@ -177,7 +177,7 @@ fn fill_branches(
     requires width { length own.old ≡ tree_width tree.now }
     requires operands { AreOperands (λ place. seen view.now.terns.now view.now.leads.now (first + place)) tree.now (map plain_tern operands.now) }
     ensures found { OnOk result (AreUnder (map plain_tern own.new) (value_seen view.now.terns.now view.now.leads.now first tree.now)) }
-    ensures stays { result ≡ Err Memory → own.new ≡ own.old }
+    ensures stays { OnErr result (own.new ≡ own.old) }
 {
     let Operands::Three(test, yes, no) = operands_of(tree) else {
         return Err(Memory);
