@@ -1,3 +1,4 @@
 pub mod NodesGrow
 pub mod Parts
-pub mod Walking
+pub mod Kept
+pub mod Behind
