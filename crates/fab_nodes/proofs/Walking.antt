@@ -1,13 +1,12 @@
 -- How a walk through the nodes of an expression keeps what is right.
 use Rattle.std.proofs.Common.{◌≡◌, ℕ, zero, suc, ◌+◌, ◌-◌, ◌<◌, ◌≤◌, false, List, [], ◌∷◌, ◌++◌, length, map, take, drop, set, refl, sym, ap, ◌∙◌, subst, arith}
-use Rattle.std.proofs.Math.Seq.{take-append_seam, drop-append_seam}
-use Rattle.std.proofs.lemmas.List.{length-map, take-map, drop-map}
+use Rattle.std.proofs.lemmas.List.{take-map, drop-map}
 use Rattle.fab_systems_laws.specs.Ternary.{no, yes, unknown, IsBelow}
 use Rattle.fab_systems_laws.specs.Ternary.{Tern as PlainTern}
 use Rattle.fab_solutions_laws.specs.Laws.{AreUnder}
 use Rattle.fab_solutions_laws.specs.fab_ternary_laws_Operators.{tern_at, inverse, agreed, each_tern, one_of}
 use Rattle.fab_solutions_laws.specs.fab_ternary_laws_Shown.{through}
-use Rattle.fab_solutions_laws.proofs.Orders.{Grows, both_grows, either_grows, differs_grows, agreed_grows, inverse_grows, through_grows, under_length}
+use Rattle.fab_solutions_laws.proofs.Orders.{Grows, both_grows, either_grows, differs_grows, agreed_grows, inverse_grows, through_grows}
 use Rattle.fab_ternary.specs.declared.Tern.{Tern}
 use Rattle.fab_ternary.specs.Terns.{plain_tern}
 use Rattle.fab_compiled.specs.declared.tree.Tree.{Tree}
@@ -28,7 +27,9 @@ use Rattle.fab_nodes.specs.declared.operands.Binary.TheVariants.{Pair}
 use Rattle.fab_nodes.specs.Nodes.{room, AreNodes, AreOperands, IsLaidOut, IsNodeOf}
 use Rattle.fab_nodes.specs.inner.Operands.{is_plain, one, parts, three, two}
 use Rattle.fab_nodes.specs.inner.Renewing.{AreBoth, IsRead}
-use Rattle.fab_nodes.proofs.Parts.{has_one, has_two, has_three, laid_as, nodes_from, nodes_own, nodes_operands, AreThree, HasOne, HasTwo, HasThree}
+use Rattle.fab_nodes.proofs.Behind.{behind_plain, front_plain}
+use Rattle.fab_nodes.proofs.Kept.{under_wide}
+use Rattle.fab_nodes.proofs.Parts.{has_one, has_two, has_three, laid_as, nodes_from, nodes_own, nodes_operands, HasOne, HasTwo, HasThree}
 
 abbrev plain : List Tern → List PlainTern
 plain bits = map plain_tern bits
@@ -41,9 +42,6 @@ under_set [] place bit ts under below = under
 under_set (b ∷ bits) place bit [] under below = absurd under
 under_set (b ∷ bits) zero bit (t ∷ ts) under below = (below, under.1)
 under_set (b ∷ bits) (suc place) bit (t ∷ ts) under below = (under.0, under_set bits place bit ts under.1 below)
-
-pub under_wide : (bits : List Tern) (ts : List PlainTern) → AreUnder (plain bits) ts → length bits ≡ length ts
-under_wide bits ts under = sym (length-map bits plain_tern) ∙ under_length (plain bits) ts under
 
 -- ---- bits of operators
 
@@ -194,21 +192,8 @@ module _ (terns : List Tern) (leads : List ℕ) (first : ℕ) where
 
 -- ---- values that stand one behind the other
 
-front : (n : ℕ) (xs ys : List Tern) → length xs ≡ n → take n (plain (xs ++ ys)) ≡ plain xs
-front n xs ys e = take-map plain_tern n (xs ++ ys) ∙ ap (λ k. plain (take k (xs ++ ys))) (sym e) ∙ ap plain (take-append_seam xs ys)
-
-back : (n : ℕ) (xs ys : List Tern) → length xs ≡ n → drop n (plain (xs ++ ys)) ≡ plain ys
-back n xs ys e = drop-map plain_tern n (xs ++ ys) ∙ ap (λ k. plain (drop k (xs ++ ys))) (sym e) ∙ ap plain (drop-append_seam xs ys)
-
 module _ (at : ℕ → PlainTern) where
-  pub both_from : (left right : Tree) (xs ys : List Tern) → length xs ≡ room left → AreNodes at left (plain xs) → AreNodes at right (plain ys) →
-      AreBoth at left right (plain (xs ++ ys))
-  both_from left right xs ys e h k = (
-    subst (AreNodes at left) (sym (front (room left) xs ys e)) h,
-    subst (AreNodes at right) (sym (back (room left) xs ys e)) k,
-  )
-
-  -- the same of bits that are split
+  -- the first ones of bits that are split, and the others
   pub first_of : (tree : Tree) (n : ℕ) (bits xs : List Tern) → n ≡ room tree → xs ≡ take n bits → AreNodes at tree (take (room tree) (plain bits)) →
       AreNodes at tree (plain xs)
   first_of tree n bits xs long is h =
@@ -218,29 +203,55 @@ module _ (at : ℕ → PlainTern) where
       P (drop (room tree) (plain bits)) → P (plain ys)
   rest_of P tree n bits ys long is h = subst P (drop-map plain_tern (room tree) bits ∙ ap plain (ap (λ k. drop k bits) (sym long) ∙ sym is)) h
 
-  -- operands as they are lent
-  pub both_lent : (l m a b : Tree) (ts : List PlainTern) → l ≡ a → m ≡ b → AreBoth at a b ts → AreBoth at l m ts
-  both_lent l m a b ts e f h = subst (λ (x : Tree). AreBoth at x m ts) (sym e) (subst (λ (x : Tree). AreBoth at a x ts) (sym f) h)
-
-  -- the branches behind a test
-  pub branches_of : (test a b : Tree) (ts : List PlainTern) → AreThree at test a b ts → AreBoth at a b (drop (room test) ts)
-  branches_of test a b ts h = (h.1, h.2)
-
+  -- of a node, and of its operands
   pub own_of : (tree : Tree) (n : ℕ) (bits xs : List Tern) → is_plain tree ≡ false → n ≡ tree_width tree → xs ≡ take n bits → AreNodes at tree (plain bits) →
       AreUnder (plain xs) (tree_value at tree)
   own_of tree n bits xs inner wide is h =
       subst (λ (ts : List PlainTern). AreUnder ts (tree_value at tree))
       (take-map plain_tern (tree_width tree) bits ∙ ap plain (ap (λ k. take k bits) (sym wide) ∙ sym is)) (nodes_own at tree (plain bits) inner h)
 
-  pub operands_of_node : (tree : Tree) (n : ℕ) (bits ys : List Tern) → is_plain tree ≡ false → n ≡ tree_width tree → ys ≡ drop n bits → AreNodes at tree (plain bits) →
+  pub operands_of : (tree : Tree) (n : ℕ) (bits ys : List Tern) → is_plain tree ≡ false → n ≡ tree_width tree → ys ≡ drop n bits → AreNodes at tree (plain bits) →
       AreOperands at tree (plain ys)
-  operands_of_node tree n bits ys inner wide is h =
+  operands_of tree n bits ys inner wide is h =
       subst (AreOperands at tree)
       (drop-map plain_tern (tree_width tree) bits ∙ ap plain (ap (λ k. drop k bits) (sym wide) ∙ sym is)) (nodes_operands at tree (plain bits) inner h)
 
-  pub node_from : (tree : Tree) (own operands : List Tern) → is_plain tree ≡ false → length own ≡ tree_width tree → AreUnder (plain own) (tree_value at tree) →
+  pub node_from : (tree : Tree) (own operands : List Tern) → is_plain tree ≡ false → IsMade tree → AreUnder (plain own) (tree_value at tree) →
       AreOperands at tree (plain operands) → AreNodes at tree (plain (own ++ operands))
-  node_from tree own operands inner wide h k =
+  node_from tree own operands inner made h k =
+      let wide = under_wide at tree own made h in
       nodes_from at tree (plain (own ++ operands)) inner
-      (subst (λ (ts : List PlainTern). AreUnder ts (tree_value at tree)) (sym (front (tree_width tree) own operands wide)) h)
-      (subst (AreOperands at tree) (sym (back (tree_width tree) own operands wide)) k)
+      (subst (λ (ts : List PlainTern). AreUnder ts (tree_value at tree)) (front_plain (tree_width tree) own operands wide) h)
+      (subst (AreOperands at tree) (behind_plain (tree_width tree) own operands wide) k)
+
+  -- ---- operands as they are lent, and back
+
+  pub two_lent : (tree : Tree) {left right : Tree} (operator : Binary) (a b : Tree) (ts : List PlainTern) → parts tree ≡ two operator a b → left ≡ a → right ≡ b →
+      AreOperands at tree ts → AreBoth at left right ts
+  two_lent tree {left} {right} operator a b ts is e f h =
+      subst (λ (x : Tree). AreBoth at x right ts) (sym e) (subst (λ (x : Tree). AreBoth at a x ts) (sym f) ((has_two tree operator a b is).operand at ts h))
+
+  pub two_back : (tree : Tree) {left right : Tree} (operator : Binary) (a b : Tree) (ts : List PlainTern) → parts tree ≡ two operator a b → left ≡ a → right ≡ b →
+      AreBoth at left right ts → AreOperands at tree ts
+  two_back tree {left} {right} operator a b ts is e f h =
+      (has_two tree operator a b is).operands at ts (subst (λ (x : Tree). AreBoth at x b ts) e (subst (λ (x : Tree). AreBoth at left x ts) f h))
+
+  -- a test, and the branches behind it
+  abbrev AreBehind : (test left right : Tree) → List PlainTern → Type 0
+  AreBehind test left right ts = AreNodes at test (take (room test) ts) × (AreBoth at left right (drop (room test) ts))
+
+  pub three_lent : (tree : Tree) {test left right : Tree} (c a b : Tree) (ts : List PlainTern) → parts tree ≡ three c a b → test ≡ c → left ≡ a → right ≡ b →
+      AreOperands at tree ts → AreNodes at test (take (room test) ts) × (AreBoth at left right (drop (room test) ts))
+  three_lent tree {test} {left} {right} c a b ts is d e f h =
+      let of = (has_three tree c a b is).operand at ts h in
+      let behind : AreBehind c a b ts = (of.0, (of.1, of.2)) in
+      subst (λ (x : Tree). AreBehind x left right ts) (sym d) (subst (λ (x : Tree). AreBehind c x right ts) (sym e)
+      (subst (λ (x : Tree). AreBehind c a x ts) (sym f) behind))
+
+  pub three_back : (tree : Tree) {test left right : Tree} (c a b : Tree) (ts : List PlainTern) → parts tree ≡ three c a b → test ≡ c → left ≡ a → right ≡ b →
+      AreNodes at test (take (room test) ts) → AreBoth at left right (drop (room test) ts) → AreOperands at tree ts
+  three_back tree {test} {left} {right} c a b ts is d e f h k =
+      let lent : AreBehind test left right ts = (h, k) in
+      let behind : AreBehind c a b ts =
+      subst (λ (x : Tree). AreBehind x a b ts) d (subst (λ (x : Tree). AreBehind test x b ts) e (subst (λ (x : Tree). AreBehind test left x ts) f lent)) in
+      (has_three tree c a b is).operands at ts (behind.0, behind.1.0, behind.1.1)

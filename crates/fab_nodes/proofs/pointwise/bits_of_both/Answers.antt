@@ -1,17 +1,7 @@
-use Rattle.std.proofs.Common.{◌≡◌, ℕ, ◌+◌, ◌<◌, ◌≤◌, length, map, sym, ap, ◌∙◌, subst, arith}
-use Rattle.fab_systems_laws.specs.Ternary.{IsBelow}
+use Rattle.std.proofs.Common.{◌≡◌, ℕ, ◌+◌, map}
 use Rattle.fab_systems_laws.specs.Ternary.{Tern as PlainTern}
-use Rattle.fab_solutions_laws.specs.Laws.{AreUnder}
-use Rattle.fab_solutions_laws.specs.fab_ternary_laws_Operators.{tern_at}
-use Rattle.fab_ternary.specs.Terns.{plain_tern}
-use Rattle.fab_compiled.specs.declared.tree.Tree.{Tree}
 use Rattle.fab_compiled.specs.Terns.{seen}
-use Rattle.fab_compiled.specs.Trees.{tree_width}
-use Rattle.fab_compiled.specs.Evaluation.{value_seen}
-use Rattle.fab_compiled.proofs.Evaluated.{wide_at}
-use Rattle.fab_nodes.specs.Nodes.{room, AreNodes, AreOperands}
-use Rattle.fab_nodes.specs.inner.Renewing.{AreBoth, IsRead}
-use Rattle.fab_nodes.proofs.Parts.{has_one, has_two, has_three}
+use Rattle.fab_nodes.specs.Nodes.{AreNodes}
 use Rattle.fab_nodes.proofs.Walking.{first_of, rest_of}
 use Rattle.fab_nodes.proofs.pointwise.bits_of_both.Goals as goal
 

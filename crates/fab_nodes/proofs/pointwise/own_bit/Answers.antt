@@ -1,4 +1,4 @@
-use Rattle.std.proofs.Common.{◌≡◌, ℕ, ◌+◌, map, sym, ap, ◌∙◌, subst}
+use Rattle.std.proofs.Common.{◌≡◌, ℕ, ◌+◌, map, refl, sym, ap, ◌∙◌, subst}
 use Rattle.fab_systems_laws.specs.Ternary.{Tern as PlainTern}
 use Rattle.fab_ternary.specs.Terns.{plain_tern}
 use Rattle.fab_compiled.specs.declared.tree.Tree.{Tree}
@@ -11,7 +11,7 @@ use Rattle.fab_nodes.specs.Nodes.{room, IsLaidOut}
 use Rattle.fab_nodes.specs.inner.Operands.{one, parts, two}
 use Rattle.fab_nodes.specs.inner.Renewing.{AreBoth}
 use Rattle.fab_nodes.proofs.Parts.{has_one, has_two, has_three}
-use Rattle.fab_nodes.proofs.Walking.{both_lent, branches_of, cond_below, first_of, inverse_below, pair_below, rest_of, three_read}
+use Rattle.fab_nodes.proofs.Walking.{cond_below, first_of, inverse_below, pair_below, rest_of, three_lent, three_read, two_lent}
 use Rattle.fab_nodes.proofs.pointwise.own_bit.Goals as goal
 
 pub operand_bit-requires-clause-nodes : goal.operand_bit-requires-clause-nodes
@@ -29,11 +29,8 @@ bit_of_parts-requires-clause-nodes c =
     let leads = c.args.point.now.view.leads.now in
     let first = c.args.point.now.first in
     let at : ℕ → PlainTern = λ place. seen terns leads (first + place) in
-    let a = c.in-Two.left.now in
-    let b = c.in-Two.right.now in
-    let bits = map plain_tern c.args.operands.now in
-    both_lent at c.of-left.result.tree.now c.of-right.result.tree.now a b bits c.of-left.ensures.tree c.of-right.ensures.tree
-    ((has_two c.args.tree.now c.in-Two.operator a b c.in-Two.ensures).operand at bits c.requires.operands)
+    two_lent at c.args.tree.now c.in-Two.operator c.in-Two.left.now c.in-Two.right.now (map plain_tern c.args.operands.now) c.in-Two.ensures c.of-left.ensures.tree
+    c.of-right.ensures.tree c.requires.operands
 
 pub bits_of_both-one-requires-clause-nodes : goal.bits_of_both-one-requires-clause-nodes
 bits_of_both-one-requires-clause-nodes c =
@@ -41,11 +38,8 @@ bits_of_both-one-requires-clause-nodes c =
     let leads = c.args.point.now.view.leads.now in
     let first = c.args.point.now.first in
     let at : ℕ → PlainTern = λ place. seen terns leads (first + place) in
-    let a = c.in-Two.left.now in
-    let b = c.in-Two.right.now in
-    let bits = map plain_tern c.args.operands.now in
-    both_lent at c.of-left.result.tree.now c.of-right.result.tree.now a b bits c.of-left.ensures.tree c.of-right.ensures.tree
-    ((has_two c.args.tree.now c.in-Two.operator a b c.in-Two.ensures).operand at bits c.requires.operands)
+    two_lent at c.args.tree.now c.in-Two.operator c.in-Two.left.now c.in-Two.right.now (map plain_tern c.args.operands.now) c.in-Two.ensures c.of-left.ensures.tree
+    c.of-right.ensures.tree c.requires.operands
 
 pub operand_bit-test-requires-clause-nodes : goal.operand_bit-test-requires-clause-nodes
 operand_bit-test-requires-clause-nodes c =
@@ -53,13 +47,11 @@ operand_bit-test-requires-clause-nodes c =
     let leads = c.args.point.now.view.leads.now in
     let first = c.args.point.now.first in
     let at : ℕ → PlainTern = λ place. seen terns leads (first + place) in
-    let tree = c.args.tree.now in
     let test = c.in-Three.test.now in
-    let a = c.in-Three.yes.now in
-    let b = c.in-Three.no.now in
-    let bits = map plain_tern c.args.operands.now in
-    let of = (has_three tree test a b c.in-Three.ensures).operand at bits c.requires.operands in
-    let read = (three_read terns leads first test a b c.in-Three.ensures c.in-Three-layout.is c.requires.read).0 in
+    let of =
+    three_lent at c.args.tree.now test c.in-Three.yes.now c.in-Three.no.now (map plain_tern c.args.operands.now) c.in-Three.ensures refl c.of-yes.ensures.tree
+    c.of-no.ensures.tree c.requires.operands in
+    let read = (three_read terns leads first test c.in-Three.yes.now c.in-Three.no.now c.in-Three.ensures c.in-Three-layout.is c.requires.read).0 in
     let room_is : c.node.result.room ≡ room test = (c.node.ensures test (subst (IsLaidOut test) (sym c.deref-in-Three-3.ensures) read.laid)).room in
     first_of at test c.node.result.room c.args.operands.now c.split_at.result.0.now room_is c.split_at.ensures.front of.0
 
@@ -69,17 +61,14 @@ bits_of_both-one-requires-in-Three-clause-nodes c =
     let leads = c.args.point.now.view.leads.now in
     let first = c.args.point.now.first in
     let at : ℕ → PlainTern = λ place. seen terns leads (first + place) in
-    let tree = c.args.tree.now in
     let test = c.in-Three.test.now in
-    let a = c.in-Three.yes.now in
-    let b = c.in-Three.no.now in
-    let bits = map plain_tern c.args.operands.now in
-    let of = (has_three tree test a b c.in-Three.ensures).operand at bits c.requires.operands in
-    let read = (three_read terns leads first test a b c.in-Three.ensures c.in-Three-layout.is c.requires.read).0 in
+    let of =
+    three_lent at c.args.tree.now test c.in-Three.yes.now c.in-Three.no.now (map plain_tern c.args.operands.now) c.in-Three.ensures refl c.of-yes.ensures.tree
+    c.of-no.ensures.tree c.requires.operands in
+    let read = (three_read terns leads first test c.in-Three.yes.now c.in-Three.no.now c.in-Three.ensures c.in-Three-layout.is c.requires.read).0 in
     let room_is : c.node.result.room ≡ room test = (c.node.ensures test (subst (IsLaidOut test) (sym c.deref-in-Three-3.ensures) read.laid)).room in
-    both_lent at c.of-yes.result.tree.now c.of-no.result.tree.now a b (map plain_tern c.split_at.result.1.now) c.of-yes.ensures.tree c.of-no.ensures.tree
-    (rest_of at (AreBoth at a b) test c.node.result.room c.args.operands.now c.split_at.result.1.now room_is c.split_at.ensures.back
-    (branches_of at test a b bits of))
+    rest_of at (AreBoth at c.of-yes.result.tree.now c.of-no.result.tree.now) test c.node.result.room c.args.operands.now c.split_at.result.1.now room_is
+    c.split_at.ensures.back of.1
 
 pub returns-in-One-Inverse-default : goal.returns-in-One-Inverse-default
 returns-in-One-Inverse-default c =
