@@ -241,6 +241,9 @@ laid_from tree operands layout is h = subst (λ X. X) (laid_out tree layout) (su
 pub laid_as : (tree : Tree) (operands : Parts) (layout : Layout) → parts tree ≡ operands → IsLaidOut tree layout → IsLaid tree operands layout
 laid_as tree operands layout is h = subst (λ (p : Parts). IsLaid tree p layout) is (subst (λ X. X) (sym (laid_out tree layout)) h)
 
+pub laid_form : (tree : Tree) (operands : Parts) (layout form : Layout) → parts tree ≡ operands → layout ≡ form → IsLaidOut tree layout → IsLaid tree operands form
+laid_form tree operands layout form is e h = subst (IsLaid tree operands) e (laid_as tree operands layout is h)
+
 -- what is told of a layout as a whole
 abbrev pub node_in : Layout → Node
 node_in (Leaf node) = node

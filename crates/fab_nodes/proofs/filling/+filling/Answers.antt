@@ -58,3 +58,6 @@ fill_operands-returns-in_ok-fill-in-Three-2 t c =
     (λ (h : AreNodes at b (map plain_tern zs)).
     (has_three tree test a b is).operands at _ (three_behind at test a b xs ys zs long other c.in_ok-fill-in-Three.ensures c.in_ok-fill-in-Three-2.ensures h))
     c.fill-in-Three-3.ensures
+
+pub fill-returns : goal.fill-returns
+fill-returns t c = ?
