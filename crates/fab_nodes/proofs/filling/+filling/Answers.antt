@@ -50,7 +50,7 @@ fill_operands-returns-in_ok-fill-in-Three-2 t c =
     let zs = c.fill-in-Three-3.new.bits in
     let is : parts tree ≡ three test a b = c.operands_of.ensures ∙ ap handed c.in-Three.is in
     let laid : IsNodeOf tree c.in-Three-layout.field-0 × IsLaidOut test c.in-Three-layout.of_test.value × IsLaidOut a c.in-Three-layout.of_yes.value
-        × IsLaidOut b c.in-Three-layout.of_no.value =
+    × IsLaidOut b c.in-Three-layout.of_no.value =
     subst (IsLaid tree (three test a b)) c.in-Three-layout.is (laid_as tree (three test a b) c.args.layout.now is c.requires.layout) in
     let of_test = c.node-in-Three.ensures test (subst (IsLaidOut test) (sym c.deref-in-Three.ensures) laid.1) in
     let of_yes = c.node-in-Three-2.ensures a (subst (IsLaidOut a) (sym c.deref-in-Three-2.ensures) laid.2) in
