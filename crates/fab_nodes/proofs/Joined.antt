@@ -1,5 +1,5 @@
 -- What an operator makes of bits that are below others is below what it makes of these.
-use Rattle.std.proofs.Common.{◌≡◌, ℕ, ◌+◌, ◌^◌, List, length, map, refl, sym, ap, ◌∙◌, subst}
+use Rattle.std.proofs.Common.{◌≡◌, ℕ, ◌+◌, ◌^◌, List, length, sym, subst}
 use Rattle.fab_syntax.specs.declared.tree.Op.TheVariants as ops
 use Rattle.fab_systems_laws.specs.Ternary.{Tern as PlainTern}
 use Rattle.fab_systems_laws.specs.Ternary.{unknown}
@@ -9,7 +9,7 @@ use Rattle.fab_solutions_laws.specs.fab_ternary_laws_Shown.{first_terns}
 use Rattle.fab_solutions_laws.proofs.Orders.{agreed_grows, both_grows, differs_grows, either_grows, entry_grows, one_grows, operated_grows, under_append, under_each, under_inverse, under_self}
 use Rattle.fab_compiled.specs.declared.whole_values.Pairing.TheVariants.{Both, Either, Differs, Agreed}
 use Rattle.fab_compiled.specs.declared.tree.Tree.{Tree}
-use Rattle.fab_compiled.specs.Trees.{tree_value, tree_width, IsMade}
+use Rattle.fab_compiled.specs.Trees.{tree_value}
 use Rattle.fab_nodes.specs.declared.operands.Unary.{Unary}
 use Rattle.fab_nodes.specs.declared.operands.Unary.TheVariants.{Inverse, Pick}
 use Rattle.fab_nodes.specs.declared.operands.Binary.{Binary}

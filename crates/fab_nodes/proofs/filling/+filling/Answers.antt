@@ -5,7 +5,6 @@ use Rattle.fab_ternary.specs.Terns.{plain_tern}
 use Rattle.fab_compiled.specs.Terns.{seen}
 use Rattle.fab_compiled.specs.Trees.{tree_value, tree_width}
 use Rattle.fab_compiled.proofs.Adding.{on_ok}
-use Rattle.fab_nodes.specs.declared.layout.Layout.{Layout}
 use Rattle.fab_nodes.specs.Nodes.{room, AreNodes, AreOperands, IsLaidOut, IsNodeOf}
 use Rattle.fab_nodes.specs.inner.Operands.{handed, is_plain, one, parts, three, two}
 use Rattle.fab_nodes.proofs.Behind.{behind_plain, front_plain, three_behind, two_behind}

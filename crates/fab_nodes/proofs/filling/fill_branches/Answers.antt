@@ -1,15 +1,11 @@
 use Rattle.std.proofs.Common.{◌≡◌, ◌+◌, ℕ, List, length, map, take, drop, sym, ap, ◌∙◌, subst, arith}
 use Rattle.std.proofs.lemmas.List.{length-map}
 use Rattle.fab_systems_laws.specs.Ternary.{Tern as PlainTern}
-use Rattle.fab_solutions_laws.specs.Laws.{AreUnder}
 use Rattle.fab_solutions_laws.specs.fab_ternary_laws_Operators.{agreed, each_tern}
 use Rattle.fab_ternary.specs.declared.Tern.{Tern}
 use Rattle.fab_ternary.specs.Terns.{plain_tern}
-use Rattle.fab_compiled.specs.declared.tree.Tree.{Tree}
 use Rattle.fab_compiled.specs.Terns.{seen}
-use Rattle.fab_compiled.specs.Trees.{tree_value, tree_width, IsMade}
-use Rattle.fab_nodes.specs.declared.layout.Layout.{Layout}
-use Rattle.fab_nodes.specs.Nodes.{room, AreNodes, AreOperands, IsLaidOut, IsNodeOf}
+use Rattle.fab_nodes.specs.Nodes.{AreNodes, IsLaidOut}
 use Rattle.fab_nodes.specs.inner.Operands.{handed, parts, three}
 use Rattle.fab_nodes.proofs.Behind.{three_split}
 use Rattle.fab_nodes.proofs.Joined.{three_under}

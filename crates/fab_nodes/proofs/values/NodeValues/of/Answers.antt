@@ -4,7 +4,7 @@ use Rattle.fab_systems_laws.specs.Ternary.{Tern as PlainTern}
 use Rattle.fab_ternary.specs.declared.Tern.{Tern}
 use Rattle.fab_ternary.specs.Terns.{plain_tern}
 use Rattle.fab_compiled.specs.Terns.{seen}
-use Rattle.fab_nodes.specs.Nodes.{room, AreKept, AreNodes, IsLaidOut}
+use Rattle.fab_nodes.specs.Nodes.{AreNodes, IsLaidOut}
 use Rattle.fab_nodes.proofs.values.NodeValues.of.Goals as goal
 
 pub returns : goal.returns

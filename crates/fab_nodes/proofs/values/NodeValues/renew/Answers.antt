@@ -4,7 +4,7 @@ use Rattle.fab_systems_laws.specs.Ternary.{Tern as PlainTern}
 use Rattle.fab_ternary.specs.declared.Tern.{Tern}
 use Rattle.fab_ternary.specs.Terns.{plain_tern}
 use Rattle.fab_compiled.specs.Terns.{seen}
-use Rattle.fab_nodes.specs.Nodes.{room, AreKept, AreNodes}
+use Rattle.fab_nodes.specs.Nodes.{room, AreNodes}
 use Rattle.fab_nodes.proofs.values.NodeValues.renew.Goals as goal
 
 pub renew-requires-clause-nodes : goal.renew-requires-clause-nodes
