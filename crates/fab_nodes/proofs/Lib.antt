@@ -2,4 +2,4 @@ pub mod NodesGrow
 pub mod Parts
 pub mod Kept
 pub mod Behind
-pub mod Walking
+pub mod Joined

@@ -1,5 +1,5 @@
 -- What holds of an expression by its operator and operands: eleven forms are four.
-use Rattle.std.proofs.Common.{◌≡◌, ℕ, ◌+◌, ◌<◌, ◌≤◌, true, false, List, take, drop, refl, sym, ap, ◌∙◌, subst, arith}
+use Rattle.std.proofs.Common.{◌≡◌, ℕ, ◌+◌, ◌<◌, ◌≤◌, false, List, take, drop, refl, sym, ◌∙◌, subst, arith}
 use Rattle.std.proofs.lemmas.Bool.{false≢true}
 use Rattle.fab_systems_laws.specs.Ternary.{Tern as PlainTern}
 use Rattle.fab_solutions_laws.specs.fab_ternary_laws_Operators.{one_of, tern_at}
@@ -12,13 +12,9 @@ use Rattle.fab_nodes.specs.declared.layout.Layout.{Layout, Leaf, One', Two', Thr
 use Rattle.fab_nodes.specs.declared.operands.Unary.{Unary}
 use Rattle.fab_nodes.specs.declared.operands.Binary.{Binary}
 use Rattle.fab_nodes.specs.Nodes.{room, AreNodes, AreOperands, IsLaidOut, IsNodeOf}
-use Rattle.fab_nodes.specs.inner.Operands.{is_plain, joined, joined_width, made_of, made_width, none, one, parts, three, two, AreWide, IsTableWithin, IsWide, Parts}
+use Rattle.fab_nodes.specs.inner.Operands.{is_plain, joined, joined_width, made_of, made_width, none, one, parts, three, two, AreWide, IsWide, Parts}
 
-pub record HasNone (tree : Tree) : Type 0 where
-  pub rooms : room tree ≡ 0
-  pub nodes : (at : ℕ → PlainTern) (ts : List PlainTern) → AreNodes at tree ts
-  pub operands : (at : ℕ → PlainTern) (ts : List PlainTern) → AreOperands at tree ts
-
+-- what holds where an expression has one operand
 pub record HasOne (tree : Tree) (operator : Unary) (a : Tree) : Type 0 where
   pub smaller : tree_size a < tree_size tree
   pub made : IsMade tree → IsMade a
@@ -26,11 +22,11 @@ pub record HasOne (tree : Tree) (operator : Unary) (a : Tree) : Type 0 where
   pub width : tree_width tree ≡ made_width operator (tree_width a)
   pub rooms : room tree ≡ tree_width tree + room a
   pub below : (bound : ℕ) → IsBelowPlace bound tree → IsBelowPlace bound a
-  pub table : (bound : ℕ) → IsBelowPlace bound tree → IsTableWithin bound operator
   pub value : (at : ℕ → PlainTern) → tree_value at tree ≡ made_of at operator (tree_value at a)
   pub operands : (at : ℕ → PlainTern) (ts : List PlainTern) → AreNodes at a ts → AreOperands at tree ts
   pub operand : (at : ℕ → PlainTern) (ts : List PlainTern) → AreOperands at tree ts → AreNodes at a ts
 
+-- where it has two
 pub record HasTwo (tree : Tree) (operator : Binary) (a b : Tree) : Type 0 where
   pub smaller : tree_size a + tree_size b < tree_size tree
   pub made : IsMade tree → IsMade a × IsMade b
@@ -46,6 +42,7 @@ pub record HasTwo (tree : Tree) (operator : Binary) (a b : Tree) : Type 0 where
 abbrev pub AreThree : (at : ℕ → PlainTern) → (c a b : Tree) → List PlainTern → Type 0
 AreThree at c a b ts = AreNodes at c (take (room c) ts) × AreNodes at a (take (room a) (drop (room c) ts)) × AreNodes at b (drop (room a) (drop (room c) ts))
 
+-- where it has three
 pub record HasThree (tree c a b : Tree) : Type 0 where
   pub smaller : tree_size c + (tree_size a + tree_size b) < tree_size tree
   pub made : IsMade tree → IsMade c × IsMade a × IsMade b
@@ -58,14 +55,14 @@ pub record HasThree (tree c a b : Tree) : Type 0 where
   pub operand : (at : ℕ → PlainTern) (ts : List PlainTern) → AreOperands at tree ts → AreThree at c a b ts
 
 abbrev Has : Tree → Parts → Type 0
-Has tree none = HasNone tree
+Has tree none = Unit {0}
 Has tree (one operator a) = HasOne tree operator a
 Has tree (two operator a b) = HasTwo tree operator a b
 Has tree (three c a b) = HasThree tree c a b
 
 has : (tree : Tree) → Has tree (parts tree)
-has (Const bits) = record { rooms = refl; nodes = λ at ts. tt; operands = λ at ts. tt }
-has (Bits first count) = record { rooms = refl; nodes = λ at ts. tt; operands = λ at ts. tt }
+has (Const bits) = tt
+has (Bits first count) = tt
 has (Pick' first width p index) = record {
   smaller = omega arith;
   made = λ m. m.2;
@@ -73,7 +70,6 @@ has (Pick' first width p index) = record {
   width = refl;
   rooms = refl;
   below = λ bound h. h.1;
-  table = λ bound h. h.0;
   value = λ at. refl;
   operands = λ at ts h. h;
   operand = λ at ts h. h;
@@ -85,7 +81,6 @@ has (Not' p e) = record {
   width = refl;
   rooms = refl;
   below = λ bound h. h;
-  table = λ bound h. tt;
   value = λ at. refl;
   operands = λ at ts h. h;
   operand = λ at ts h. h;
@@ -168,9 +163,6 @@ has (Cond' p c q a r b) = record {
   operand = λ at ts h. h;
 }
 
-pub has_none : (tree : Tree) → parts tree ≡ none → HasNone tree
-has_none tree is = subst (Has tree) is (has tree)
-
 pub has_one : (tree : Tree) (operator : Unary) (a : Tree) → parts tree ≡ one operator a → HasOne tree operator a
 has_one tree operator a is = subst (Has tree) is (has tree)
 
@@ -182,6 +174,7 @@ has_three tree c a b is = subst (Has tree) is (has tree)
 
 -- ---- layouts
 
+-- a layout has the form of the operands
 abbrev pub IsLaid : Tree → Parts → Layout → Type 0
 IsLaid tree none (Leaf node) = IsNodeOf tree node
 IsLaid tree (one operator a) (One' node x l) = IsNodeOf tree node × IsLaidOut a l
@@ -235,11 +228,12 @@ laid_out (Cond' p c q a r b) (One' node x l) = refl
 laid_out (Cond' p c q a r b) (Two' node x l y m) = refl
 laid_out (Cond' p c q a r b) (Three' node x l y m z n) = refl
 
-pub laid_from : (tree : Tree) (operands : Parts) (layout : Layout) → parts tree ≡ operands → IsLaid tree operands layout → IsLaidOut tree layout
-laid_from tree operands layout is h = subst (λ X. X) (laid_out tree layout) (subst (λ (p : Parts). IsLaid tree p layout) (sym is) h)
-
 pub laid_as : (tree : Tree) (operands : Parts) (layout : Layout) → parts tree ≡ operands → IsLaidOut tree layout → IsLaid tree operands layout
 laid_as tree operands layout is h = subst (λ (p : Parts). IsLaid tree p layout) is (subst (λ X. X) (sym (laid_out tree layout)) h)
+
+-- the same where the form of the layout is known
+pub laid_form : (tree : Tree) (operands : Parts) (layout form : Layout) → parts tree ≡ operands → layout ≡ form → IsLaidOut tree layout → IsLaid tree operands form
+laid_form tree operands layout form is e h = subst (IsLaid tree operands) e (laid_as tree operands layout is h)
 
 -- what is told of a layout as a whole
 abbrev pub node_in : Layout → Node
@@ -312,19 +306,7 @@ module _ (at : ℕ → PlainTern) where
   nodes_operands (Minus' width p a q b) ts h nodes = (nodes.1, nodes.2)
   nodes_operands (Cond' p c q a r b) ts h nodes = (nodes.1, nodes.2, nodes.3)
 
-  pub nodes_plain : (tree : Tree) (ts : List PlainTern) → is_plain tree ≡ true → AreNodes at tree ts
-  nodes_plain (Const bits) ts h = tt
-  nodes_plain (Bits first count) ts h = tt
-  nodes_plain (Pick' first width p index) ts h = absurd (false≢true h)
-  nodes_plain (Not' p e) ts h = absurd (false≢true h)
-  nodes_plain (Cat' p low width q high) ts h = absurd (false≢true h)
-  nodes_plain (And' p a q b) ts h = absurd (false≢true h)
-  nodes_plain (Or' p a q b) ts h = absurd (false≢true h)
-  nodes_plain (Xor' p a q b) ts h = absurd (false≢true h)
-  nodes_plain (Equal' width p a q b) ts h = absurd (false≢true h)
-  nodes_plain (Minus' width p a q b) ts h = absurd (false≢true h)
-  nodes_plain (Cond' p c q a r b) ts h = absurd (false≢true h)
-
+-- there is room for them
 pub room_width : (tree : Tree) → is_plain tree ≡ false → tree_width tree ≤ room tree
 room_width (Const bits) h = absurd (false≢true (sym h))
 room_width (Bits first count) h = absurd (false≢true (sym h))

@@ -10,9 +10,7 @@ ghost use Rattle.fab_nodes.specs.Nodes.{room, AreNodes, AreOperands, IsLaidOut};
 ghost use Rattle.fab_nodes.specs.inner.Operands.{joined, joined_width, made_of, made_width, AreWide, IsTableWithin, IsWide};
 
 use crate::layout::Layout;
-use crate::operands::{
-    Binary, Operands, Unary, is_leaf, operand_bit, operand_into, operands_of,
-};
+use crate::operands::{Binary, Operands, Unary, is_leaf, operand_bit, operand_into, operands_of};
 use fab_base::Memory;
 use fab_compiled::{Pairing, Tree, View, entry, invert, pair_up, same_bits, subtract};
 use fab_ternary::Tern;
@@ -149,7 +147,14 @@ pub(crate) fn fill_own(
             let (of_left, of_right) = (of_left.node(), of_right.node());
             let (left_bits, right_bits) = operands.split_at(of_left.room);
             operand_into(left, of_left.width, left_bits, first, view, &mut spare.left)?;
-            operand_into(right, of_right.width, right_bits, first, view, &mut spare.right)?;
+            operand_into(
+                right,
+                of_right.width,
+                right_bits,
+                first,
+                view,
+                &mut spare.right,
+            )?;
             join(operator, &spare.left, &spare.right, own);
             Ok(())
         }

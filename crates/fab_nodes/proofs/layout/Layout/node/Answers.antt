@@ -1,5 +1,4 @@
 use Rattle.std.proofs.Common.{subst, ap}
-use Rattle.fab_nodes.specs.declared.layout.Node.{Node}
 use Rattle.fab_nodes.specs.Nodes.{IsNodeOf}
 use Rattle.fab_nodes.proofs.Parts.{node_in, node_of}
 use Rattle.fab_nodes.proofs.layout.Layout.node.Goals as goal
