@@ -3,3 +3,4 @@ pub mod Parts
 pub mod Kept
 pub mod Behind
 pub mod Joined
+pub mod Walking
