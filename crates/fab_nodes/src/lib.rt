@@ -1,9 +1,11 @@
 //! Values of all nodes of an expression, kept while points come to be known one by one.
 #![tactic(auto)]
 
+mod dueness;
 mod filling;
 mod layout;
 mod operands;
+mod pointwise;
 mod renewing;
 mod values;
 
