@@ -22,14 +22,10 @@ pub struct Node {
     pub number: usize,
     /// How many nodes it is with those below it.
     pub nodes: usize,
-    /// The first place that it reads, or a node below it.
-    pub low: u64,
-    /// Behind the last such place.
-    pub end: u64,
 }
 
 impl Node {
-    // A node that reads nothing, before its operands are told of.
+    // A node before its operands are told of.
     fn new(width: usize, room: usize, number: usize) -> Node
         ensures width { result.width ≡ width }
         ensures room { result.room ≡ room }
@@ -39,20 +35,6 @@ impl Node {
             room,
             number,
             nodes: 1,
-            low: u64::MAX,
-            end: 0,
-        }
-    }
-
-    // The same node where it reads more places, from one on to before another.
-    fn reading(self, low: u64, end: u64) -> Node
-        ensures width { result.width ≡ self.width }
-        ensures room { result.room ≡ self.room }
-    {
-        Node {
-            low: self.low.min(low),
-            end: self.end.max(end),
-            ..self
         }
     }
 
@@ -64,11 +46,10 @@ impl Node {
             return Err(Memory);
         };
         let nodes = self.nodes.saturating_add(operand.nodes);
-        let read = self.reading(operand.low, operand.end);
         Ok(Node {
             room,
             nodes,
-            ..read
+            ..self
         })
     }
 
@@ -145,10 +126,7 @@ fn leaf_node(tree: &Tree, number: usize) -> Node
 {
     match tree {
         Tree::Const(bits) => Node::new(bits.len(), 0, number),
-        Tree::Bits(place, count) => {
-            let low = u64::from(*place);
-            Node::new(*count as usize, 0, number).reading(low, low + u64::from(*count))
-        }
+        Tree::Bits(_, count) => Node::new(*count as usize, 0, number),
         Tree::Pick(_, _, _) | Tree::Cat(_, _, _) | Tree::Not(_) | Tree::Cond(_, _, _) => {
             Node::new(0, 0, number)
         }
@@ -204,14 +182,11 @@ fn over_three(
 fn unary_node(operator: Unary, number: usize, operand: Node) -> Result<Node, Memory>
     ensures { IfOk result (λ node. (node.width ≡ made_width operator operand.width) × (node.room ≡ made_width operator operand.width + operand.room)) }
 {
-    match operator {
-        Unary::Inverse => Node::new(operand.width, operand.width, number).over(operand),
-        Unary::Pick(place, width) => {
-            let low = u64::from(place);
-            let end = low.saturating_add(1_u64.checked_shl(width).unwrap_or(u64::MAX));
-            Node::new(1, 1, number).reading(low, end).over(operand)
-        }
-    }
+    let width = match operator {
+        Unary::Inverse => operand.width,
+        Unary::Pick(_, _) => 1,
+    };
+    Node::new(width, width, number).over(operand)
 }
 
 // The same with two operands.

@@ -7,6 +7,7 @@ mod layout;
 mod operands;
 mod pointwise;
 mod renewing;
+mod spans;
 mod values;
 
 pub use values::NodeValues;

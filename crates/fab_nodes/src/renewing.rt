@@ -16,6 +16,7 @@ use crate::filling::Spare;
 use crate::layout::Layout;
 use crate::operands::{Binary, Operands, is_leaf, operands_of};
 use crate::pointwise::{Operand, settle};
+use crate::spans::Span;
 use fab_base::Memory;
 use fab_compiled::{Tree, View};
 use fab_ternary::Tern;
@@ -28,6 +29,8 @@ pub struct News {
     pub bits: Vec<u32>,
     /// By the number of an equality or a difference: how many bits of its operands are known, from the first on. By that of a pick: how often it was looked at.
     pub known: Vec<u64>,
+    /// By the number of a node: the places of the points of which it may learn.
+    pub spans: Vec<Span>,
 }
 
 impl News {
@@ -35,6 +38,7 @@ impl News {
         Ok(News {
             bits: Vec::new(alloc),
             known: vec![in alloc; 0; nodes]?,
+            spans: vec![in alloc; Span::all(); nodes]?,
         })
     }
 }
@@ -70,8 +74,10 @@ pub(crate) fn renew(
 {
     let node = layout.node();
     let place = point.place as u64;
-    if place < node.low || place >= node.end {
-        return;
+    if let Some(span) = news.spans.get(node.number) {
+        if !span.has(place) {
+            return;
+        }
     }
     if is_leaf(tree) {
         push_place(tree, place, &mut news.bits);

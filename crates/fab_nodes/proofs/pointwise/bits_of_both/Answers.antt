@@ -1,4 +1,4 @@
-use Rattle.std.proofs.Common.{◌≡◌, ℕ, ◌+◌, map}
+use Rattle.std.proofs.Common.{ℕ, ◌+◌}
 use Rattle.fab_systems_laws.specs.Ternary.{Tern as PlainTern}
 use Rattle.fab_compiled.specs.Terns.{seen}
 use Rattle.fab_nodes.specs.Nodes.{AreNodes}

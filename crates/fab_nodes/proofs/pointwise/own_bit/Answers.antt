@@ -1,7 +1,6 @@
 use Rattle.std.proofs.Common.{◌≡◌, ℕ, ◌+◌, map, refl, sym, ap, ◌∙◌, subst}
 use Rattle.fab_systems_laws.specs.Ternary.{Tern as PlainTern}
 use Rattle.fab_ternary.specs.Terns.{plain_tern}
-use Rattle.fab_compiled.specs.declared.tree.Tree.{Tree}
 use Rattle.fab_compiled.specs.Terns.{seen}
 use Rattle.fab_nodes.specs.declared.operands.Unary.{Unary}
 use Rattle.fab_nodes.specs.declared.operands.Unary.TheVariants.{Inverse}
