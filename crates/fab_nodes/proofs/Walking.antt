@@ -94,7 +94,8 @@ module _ (terns : List Tern) (leads : List ℕ) (first : ℕ) where
       let us = value_seen terns leads first b in
       let long : length ts ≡ tree_width a = wide_at terns leads first a (has.made made).0 in
       let same : length ts ≡ length us = long ∙ has.wide made ∙ sym (wide_at terns leads first b (has.made made).1) in
-      below_as r (by pairing t u) (each_tern (by pairing) ts us) (value_seen terns leads first tree) bit is (has.value (λ place. seen terns leads (first + place)))
+      below_as r (by pairing t u) (each_tern (by pairing) ts us) (value_seen terns leads first tree) bit is
+      (has.value (λ place. seen terns leads (first + place)))
       (subst (λ (x : PlainTern). IsBelow (by pairing t u) x) (sym (each_at (by pairing) ts us bit (omega (arith, within, has.width made, long)) same))
       (by_grows pairing t u (tern_at ts bit) (tern_at us bit) (lent_below t left a bit of_left h) (lent_below u right b bit of_right k)))
 
@@ -210,8 +211,8 @@ module _ (at : ℕ → PlainTern) where
       subst (λ (ts : List PlainTern). AreUnder ts (tree_value at tree))
       (take-map plain_tern (tree_width tree) bits ∙ ap plain (ap (λ k. take k bits) (sym wide) ∙ sym is)) (nodes_own at tree (plain bits) inner h)
 
-  pub operands_of : (tree : Tree) (n : ℕ) (bits ys : List Tern) → is_plain tree ≡ false → n ≡ tree_width tree → ys ≡ drop n bits → AreNodes at tree (plain bits) →
-      AreOperands at tree (plain ys)
+  pub operands_of : (tree : Tree) (n : ℕ) (bits ys : List Tern) → is_plain tree ≡ false → n ≡ tree_width tree → ys ≡ drop n bits →
+      AreNodes at tree (plain bits) → AreOperands at tree (plain ys)
   operands_of tree n bits ys inner wide is h =
       subst (AreOperands at tree)
       (drop-map plain_tern (tree_width tree) bits ∙ ap plain (ap (λ k. drop k bits) (sym wide) ∙ sym is)) (nodes_operands at tree (plain bits) inner h)
@@ -226,13 +227,13 @@ module _ (at : ℕ → PlainTern) where
 
   -- ---- operands as they are lent, and back
 
-  pub two_lent : (tree : Tree) {left right : Tree} (operator : Binary) (a b : Tree) (ts : List PlainTern) → parts tree ≡ two operator a b → left ≡ a → right ≡ b →
-      AreOperands at tree ts → AreBoth at left right ts
+  pub two_lent : (tree : Tree) {left right : Tree} (operator : Binary) (a b : Tree) (ts : List PlainTern) → parts tree ≡ two operator a b → left ≡ a →
+      right ≡ b → AreOperands at tree ts → AreBoth at left right ts
   two_lent tree {left} {right} operator a b ts is e f h =
       subst (λ (x : Tree). AreBoth at x right ts) (sym e) (subst (λ (x : Tree). AreBoth at a x ts) (sym f) ((has_two tree operator a b is).operand at ts h))
 
-  pub two_back : (tree : Tree) {left right : Tree} (operator : Binary) (a b : Tree) (ts : List PlainTern) → parts tree ≡ two operator a b → left ≡ a → right ≡ b →
-      AreBoth at left right ts → AreOperands at tree ts
+  pub two_back : (tree : Tree) {left right : Tree} (operator : Binary) (a b : Tree) (ts : List PlainTern) → parts tree ≡ two operator a b → left ≡ a →
+      right ≡ b → AreBoth at left right ts → AreOperands at tree ts
   two_back tree {left} {right} operator a b ts is e f h =
       (has_two tree operator a b is).operands at ts (subst (λ (x : Tree). AreBoth at x b ts) e (subst (λ (x : Tree). AreBoth at left x ts) f h))
 

@@ -11,13 +11,15 @@ use Rattle.fab_nodes.proofs.dueness.is_due.Goals as goal
 pub are_apart-requires-clause-nodes : goal.are_apart-requires-clause-nodes
 are_apart-requires-clause-nodes c =
     let at : ℕ → PlainTern = λ place. seen c.args.point.now.view.terns.now c.args.point.now.view.leads.now (c.args.point.now.first + place) in
-    two_lent at c.args.tree.now c.in-Two.operator c.in-Two.left.now c.in-Two.right.now (map plain_tern c.args.operands.now) c.in-Two.ensures c.of-left.ensures.tree
+    two_lent at c.args.tree.now c.in-Two.operator c.in-Two.left.now c.in-Two.right.now (map plain_tern c.args.operands.now) c.in-Two.ensures
+    c.of-left.ensures.tree
     c.of-right.ensures.tree c.requires.operands
 
 pub known_from-requires-clause-nodes : goal.known_from-requires-clause-nodes
 known_from-requires-clause-nodes c =
     let at : ℕ → PlainTern = λ place. seen c.args.point.now.view.terns.now c.args.point.now.view.leads.now (c.args.point.now.first + place) in
-    two_lent at c.args.tree.now c.in-Two.operator c.in-Two.left.now c.in-Two.right.now (map plain_tern c.args.operands.now) c.in-Two.ensures c.of-left.ensures.tree
+    two_lent at c.args.tree.now c.in-Two.operator c.in-Two.left.now c.in-Two.right.now (map plain_tern c.args.operands.now) c.in-Two.ensures
+    c.of-left.ensures.tree
     c.of-right.ensures.tree c.requires.operands
 
 pub is_all_known-requires-clause-nodes : goal.is_all_known-requires-clause-nodes

@@ -15,7 +15,9 @@ operand_bit-requires-clause-nodes c =
     let leads = c.args.point.now.view.leads.now in
     let first = c.args.point.now.first in
     let at : ℕ → PlainTern = λ place. seen terns leads (first + place) in
-    first_of at c.args.left.tree.now c.node.result.room c.args.operands.now c.split_at.result.0.now (c.node.ensures c.args.left.tree.now c.requires.left.laid).room c.split_at.ensures.front c.requires.nodes.0
+    let tree = c.args.left.tree.now in
+    let room_is = (c.node.ensures tree c.requires.left.laid).room in
+    first_of at tree c.node.result.room c.args.operands.now c.split_at.result.0.now room_is c.split_at.ensures.front c.requires.nodes.0
 
 pub operand_bit-requires-else-bit-width-clause-nodes : goal.operand_bit-requires-else-bit-width-clause-nodes
 operand_bit-requires-else-bit-width-clause-nodes c =
@@ -23,7 +25,10 @@ operand_bit-requires-else-bit-width-clause-nodes c =
     let leads = c.args.point.now.view.leads.now in
     let first = c.args.point.now.first in
     let at : ℕ → PlainTern = λ place. seen terns leads (first + place) in
-    rest_of at (AreNodes at c.args.right.tree.now) c.args.left.tree.now c.node.result.room c.args.operands.now c.split_at.result.1.now (c.node.ensures c.args.left.tree.now c.requires.left.laid).room c.split_at.ensures.back c.requires.nodes.1
+    let tree = c.args.left.tree.now in
+    let room_is = (c.node.ensures tree c.requires.left.laid).room in
+    rest_of at (AreNodes at c.args.right.tree.now) tree c.node.result.room c.args.operands.now c.split_at.result.1.now room_is c.split_at.ensures.back
+    c.requires.nodes.1
 
 pub returns-then-bit-width : goal.returns-then-bit-width
 returns-then-bit-width c =

@@ -28,7 +28,8 @@ bit_of_parts-requires-clause-nodes c =
     let leads = c.args.point.now.view.leads.now in
     let first = c.args.point.now.first in
     let at : ℕ → PlainTern = λ place. seen terns leads (first + place) in
-    two_lent at c.args.tree.now c.in-Two.operator c.in-Two.left.now c.in-Two.right.now (map plain_tern c.args.operands.now) c.in-Two.ensures c.of-left.ensures.tree
+    two_lent at c.args.tree.now c.in-Two.operator c.in-Two.left.now c.in-Two.right.now (map plain_tern c.args.operands.now) c.in-Two.ensures
+    c.of-left.ensures.tree
     c.of-right.ensures.tree c.requires.operands
 
 pub bits_of_both-one-requires-clause-nodes : goal.bits_of_both-one-requires-clause-nodes
@@ -37,7 +38,8 @@ bits_of_both-one-requires-clause-nodes c =
     let leads = c.args.point.now.view.leads.now in
     let first = c.args.point.now.first in
     let at : ℕ → PlainTern = λ place. seen terns leads (first + place) in
-    two_lent at c.args.tree.now c.in-Two.operator c.in-Two.left.now c.in-Two.right.now (map plain_tern c.args.operands.now) c.in-Two.ensures c.of-left.ensures.tree
+    two_lent at c.args.tree.now c.in-Two.operator c.in-Two.left.now c.in-Two.right.now (map plain_tern c.args.operands.now) c.in-Two.ensures
+    c.of-left.ensures.tree
     c.of-right.ensures.tree c.requires.operands
 
 pub operand_bit-test-requires-clause-nodes : goal.operand_bit-test-requires-clause-nodes
@@ -77,7 +79,8 @@ returns-in-One-Inverse-default c =
     let a = c.in-One-Inverse-default.inner.now in
     let is : parts c.args.tree.now ≡ one Inverse a =
     c.in-One-Inverse-default.ensures ∙ ap (λ (operator : Unary). one operator a) c.in-One-Inverse-default.field-0-is in
-    inverse_below terns leads first c.args.tree.now a (plain_tern c.operand_bit.result) (plain_tern c.inverse.result) c.args.bit (has_one c.args.tree.now Inverse a is)
+    inverse_below terns leads first c.args.tree.now a (plain_tern c.operand_bit.result) (plain_tern c.inverse.result) c.args.bit
+    (has_one c.args.tree.now Inverse a is)
     c.requires.read.made c.requires.within c.inverse.ensures c.operand_bit.ensures
 
 pub returns-in-Pair : goal.returns-in-Pair

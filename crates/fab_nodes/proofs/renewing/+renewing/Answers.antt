@@ -9,7 +9,8 @@ use Rattle.fab_nodes.specs.inner.Operands.{is_plain}
 use Rattle.fab_nodes.specs.inner.Renewing.{AreBoth, IsRead}
 use Rattle.fab_nodes.proofs.Behind.{behind_plain, front_plain, two_behind}
 use Rattle.fab_nodes.proofs.Parts.{has_one, has_two, has_three}
-use Rattle.fab_nodes.proofs.Walking.{first_of, lent_read, node_from, one_read, operands_of, own_of, rest_of, three_back, three_lent, three_read, two_back, two_lent, two_read}
+use Rattle.fab_nodes.proofs.Walking.{first_of, lent_read, node_from, one_read, operands_of, own_of, rest_of}
+use Rattle.fab_nodes.proofs.Walking.{three_back, three_lent, three_read, two_back, two_lent, two_read}
 use Rattle.fab_nodes.proofs.renewing.+renewing.Goals as goal
 
 pub renew-renew_operator-requires : goal.renew-renew_operator-requires
@@ -144,7 +145,8 @@ renew_operands-returns-then-matches t c =
     let leads = c.args.point.now.view.leads.now in
     let first = c.args.point.now.first in
     let at : ℕ → PlainTern = λ place. seen terns leads (first + place) in
-    two_back at c.args.tree.now c.in-Two.operator c.in-Two.left.now c.in-Two.right.now (map plain_tern c.renew_two-middle.new.bits) c.in-Two.ensures c.of-left.ensures.tree
+    two_back at c.args.tree.now c.in-Two.operator c.in-Two.left.now c.in-Two.right.now (map plain_tern c.renew_two-middle.new.bits) c.in-Two.ensures
+    c.of-left.ensures.tree
     c.of-right.ensures.tree c.renew_two-middle.ensures
 
 pub renew_operands-returns-else-matches : goal.renew_operands-returns-else-matches
@@ -153,7 +155,8 @@ renew_operands-returns-else-matches t c =
     let leads = c.args.point.now.view.leads.now in
     let first = c.args.point.now.first in
     let at : ℕ → PlainTern = λ place. seen terns leads (first + place) in
-    two_back at c.args.tree.now c.in-Two.operator c.in-Two.left.now c.in-Two.right.now (map plain_tern c.renew_two-middle.new.bits) c.in-Two.ensures c.of-left.ensures.tree
+    two_back at c.args.tree.now c.in-Two.operator c.in-Two.left.now c.in-Two.right.now (map plain_tern c.renew_two-middle.new.bits) c.in-Two.ensures
+    c.of-left.ensures.tree
     c.of-right.ensures.tree c.renew_two-middle.ensures
 
 pub renew_operands-returns-in-Three-layout : goal.renew_operands-returns-in-Three-layout
@@ -162,7 +165,8 @@ renew_operands-returns-in-Three-layout t c =
     let leads = c.args.point.now.view.leads.now in
     let first = c.args.point.now.first in
     let at : ℕ → PlainTern = λ place. seen terns leads (first + place) in
-    three_back at c.args.tree.now c.in-Three.test.now c.in-Three.yes.now c.in-Three.no.now (map plain_tern c.renew_cond.new.bits) c.in-Three.ensures c.of-test.ensures.tree
+    three_back at c.args.tree.now c.in-Three.test.now c.in-Three.yes.now c.in-Three.no.now (map plain_tern c.renew_cond.new.bits) c.in-Three.ensures
+    c.of-test.ensures.tree
     c.of-yes.ensures.tree c.of-no.ensures.tree c.renew_cond.ensures.of_test c.renew_cond.ensures.branches
 
 pub renew_two-renew-requires : goal.renew_two-renew-requires
