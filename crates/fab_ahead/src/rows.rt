@@ -161,7 +161,7 @@ impl Rows {
             Some(Drive::Value(source) | Drive::Hold(_, source))
                 if needs_back(network, point, needed, waits) => {
                 let subject = Subject::Expression(source.tree, source.first);
-                self.loops.count(subject) >= looks_in_vain(network, source)
+                self.loops.count(subject) >= looks_in_vain(network, *source)
             }
             _ => false,
         }
