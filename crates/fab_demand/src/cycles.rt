@@ -8,7 +8,9 @@ ghost use Rattle.fab_network.specs.Network.{AreFit};
 ghost use Rattle.fab_network.specs.Passes.{kept_tern, AreOwn, EachListed, IsListed};
 ghost use Rattle.fab_demand.specs.inner.Cycles.{start_tern, AreStarts, IsSettled, IsStart, IsStartAt};
 
-use fab_network::{Drive, Form, Network, Readers, settle_by};
+use fab_network::{Drive, Form, Network};
+use fab_readers::Readers;
+use fab_settling::settle_by;
 use fab_ternary::Tern;
 
 /// A cycle: these points start with what is given to them, and are settled by their forms.

@@ -17,7 +17,8 @@ use crate::others::MANY;
 use fab_ahead::{Next, Rows, end_of_rest, is_unmarked};
 use fab_base::Memory;
 use fab_compiled::{Lead, View};
-use fab_network::{Clock, Network, Readers, Source, lead_of_source};
+use fab_network::{Clock, Network, Source, lead_of_source};
+use fab_readers::Readers;
 use fab_ternary::Tern;
 use std::alloc::Global;
 

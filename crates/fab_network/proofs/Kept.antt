@@ -1,13 +1,12 @@
 -- What is kept for points.
-use Rattle.std.proofs.Common.{◌≡◌, ℕ, zero, suc, ◌+◌, ◌<◌, true, List, [], ◌∷◌, length, refl, sym, ap, ◌∙◌, subst, inl, inr, arith, slice_set}
+use Rattle.std.proofs.Common.{◌≡◌, ℕ, zero, suc, ◌<◌, true, List, [], ◌∷◌, length, refl, sym, ap, ◌∙◌, subst, inl, inr, arith, slice_set}
 use Rattle.std.proofs.lemmas.Bool.{cases_eq}
 use Rattle.fab_systems_laws.specs.Ternary.{no, yes, unknown, IsBelow}
 use Rattle.fab_systems_laws.specs.Ternary.{Tern as PlainTern}
 use Rattle.fab_systems_laws.proofs.Order.{below_equal}
 use Rattle.fab_ternary.specs.declared.Tern.{Tern}
-use Rattle.fab_ternary.specs.declared.Tern.TheVariants.{No, Yes, Open}
 use Rattle.fab_ternary.specs.Terns.{plain_tern, is_known}
-use Rattle.fab_network.specs.Passes.{kept_tern, open_count, AreRising}
+use Rattle.fab_network.specs.Passes.{kept_tern, AreRising}
 
 pub kept_same : (terns : List Tern) (point : ℕ) (t : Tern) → point < length terns → kept_tern (slice_set terns point t) point ≡ plain_tern t
 kept_same [] point t l = absurd (omega arith)
@@ -21,19 +20,6 @@ kept_other (u ∷ terns) zero t (suc other) apart = refl
 kept_other (u ∷ terns) (suc point) t zero apart = refl
 kept_other (u ∷ terns) (suc point) t (suc other) apart = kept_other terns point t other (λ e. apart (ap suc e))
 
--- an open point that comes to be known
-pub open_fewer : (terns : List Tern) (point : ℕ) (t : Tern) → point < length terns → kept_tern terns point ≡ unknown → is_known (plain_tern t) ≡ true →
-    open_count terns ≡ 1 + open_count (slice_set terns point t)
-open_fewer [] point t l is known_now = absurd (omega arith)
-open_fewer (Open ∷ terns) zero No l is known_now = refl
-open_fewer (Open ∷ terns) zero Yes l is known_now = refl
-open_fewer (Open ∷ terns) zero Open l is known_now = cc
-open_fewer (No ∷ terns) zero t l is known_now = cc
-open_fewer (Yes ∷ terns) zero t l is known_now = cc
-open_fewer (Open ∷ terns) (suc point) t l is known_now = ap (λ n. 1 + n) (open_fewer terns point t (omega arith) is known_now)
-open_fewer (No ∷ terns) (suc point) t l is known_now = open_fewer terns point t (omega arith) is known_now
-open_fewer (Yes ∷ terns) (suc point) t l is known_now = open_fewer terns point t (omega arith) is known_now
-
 pub rising_set : (terns : List Tern) (point : ℕ) (t : Tern) → point < length terns → kept_tern terns point ≡ unknown → AreRising terns (slice_set terns point t)
 rising_set terns point t l is other =
     elim (cases_eq other point) [
@@ -46,6 +32,3 @@ pub known_below : (t u : PlainTern) → is_known t ≡ true → IsBelow t u → 
 known_below no u h k = k
 known_below yes u h k = k
 known_below unknown u h k = cc
-
-pub known_grows : (t u : PlainTern) → is_known t ≡ true → IsBelow t u → is_known u ≡ true
-known_grows t u h k = ap is_known (sym (known_below t u h k)) ∙ h

@@ -1,9 +1,6 @@
 pub mod Sources
 pub mod Kept
-pub mod Passing
 pub mod Shares
-pub mod Growing
-pub mod Visiting
 pub mod Parted
 pub mod Entries
 pub mod Forming

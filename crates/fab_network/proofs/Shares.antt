@@ -1,10 +1,9 @@
 -- The value of an expression that is kept for its bits.
-use Rattle.std.proofs.Common.{◌≡◌, ℕ, ◌<◌, Bool, true, false, List, length, map, slice_get, slice_set, slice_index, get_or, zero, suc, not, [], ◌∷◌, Option, Some, refl, sym, ap, ◌∙◌, subst, inl, inr, arith}
+use Rattle.std.proofs.Common.{◌≡◌, ℕ, ◌<◌, Bool, true, false, List, length, map, slice_get, get_or, zero, suc, [], ◌∷◌, Option, Some, sym, ap, ◌∙◌, subst, inl, inr}
 use Rattle.std.proofs.lemmas.Bool.{cases_Bool, false≢true}
-use Rattle.fab_systems_laws.specs.Ternary.{unknown, IsBelow}
+use Rattle.fab_systems_laws.specs.Ternary.{IsBelow}
 use Rattle.fab_systems_laws.proofs.Order.{below_equal, below_trans}
 use Rattle.fab_ternary.specs.declared.Tern.{Tern}
-use Rattle.fab_ternary.specs.declared.Tern.TheVariants.{No, Yes, Open}
 use Rattle.fab_ternary.specs.Terns.{plain_tern, is_known}
 use Rattle.fab_compiled.proofs.fab_equations_Numbering.{same_value}
 use Rattle.fab_compiled.specs.declared.tree.Tree.{Tree}
@@ -16,9 +15,8 @@ use Rattle.fab_compiled.proofs.Written.{whole_bit}
 use Rattle.fab_network.specs.declared.network.Source.{Source}
 use Rattle.fab_network.specs.declared.sharing.Shared.{Shared}
 use Rattle.fab_network.specs.Network.{tern_in, source_tern, IsFitSource}
-use Rattle.fab_network.specs.Passes.{kept_tern}
 use Rattle.fab_network.specs.Sharing.{IsKeptBit, IsShared}
-use Rattle.fab_network.proofs.Kept.{known_below, rising_set}
+use Rattle.fab_network.proofs.Kept.{known_below}
 use Rattle.fab_network.proofs.Sources.{source_grows}
 
 -- what is kept stays right where more is known
@@ -67,25 +65,6 @@ found_bits trees terns leads source tree bits fit there is bit kept at =
       below = below_equal (plain_tern kept) (source_tern trees (seen terns leads) this) value;
       same = λ e. value;
     }
-
--- an open point
-pub open_kept : (terns : List Tern) (point : ℕ) → point < length terns → (b : Bool) → b ≡ not (is_known (plain_tern (get_or terns point No))) → b ≡ true → kept_tern terns point ≡ unknown
-open_kept [] point l b is test = absurd (omega arith)
-open_kept (No ∷ terns) zero l b is test = absurd (false≢true (sym is ∙ test))
-open_kept (Yes ∷ terns) zero l b is test = absurd (false≢true (sym is ∙ test))
-open_kept (Open ∷ terns) zero l b is test = refl
-open_kept (t ∷ terns) (suc point) l b is test = open_kept terns point (omega arith) b is test
-
--- a value that is told to be open
-pub open_value : (t : Tern) (b : Bool) → b ≡ not (is_known (plain_tern t)) → b ≡ true → plain_tern t ≡ unknown
-open_value No b is test = absurd (false≢true (sym is ∙ test))
-open_value Yes b is test = absurd (false≢true (sym is ∙ test))
-open_value Open b is test = refl
-
--- where a point comes to be known, no less is known of all points
-pub seen_grows : (terns : List Tern) (leads : List ℕ) (point : ℕ) (t : Tern) → point < length terns → kept_tern terns point ≡ unknown →
-    (other : ℕ) → IsBelow (seen terns leads other) (seen (slice_set terns point t) leads other)
-seen_grows terns leads point t l none other = rising_set terns point t l none (slice_index leads other)
 
 -- what an index reads
 pub read_there : {X : Type 0} (xs : List X) (k : ℕ) (x y : X) → slice_get xs k ≡ Some x → y ≡ get_or xs k y → slice_get xs k ≡ Some y

@@ -1,7 +1,6 @@
 pub mod Network
 pub mod Solved
 pub mod Passes
-pub mod Scenes
 pub mod Leading
 pub mod Sharing
 pub mod Tables

@@ -1,19 +1,13 @@
 -- The value of an expression that is kept for its bits.
-use Rattle.std.specs.Prelude.{◌≡◌, ℕ, ◌+◌, ◌≤◌, Bool, true, List, Some, slice_get, All, IfSome}
+use Rattle.std.specs.Prelude.{◌≡◌, ℕ, Bool, true, List, Some, slice_get}
 use Rattle.fab_systems_laws.specs.Ternary.{IsBelow}
 use Rattle.fab_ternary.specs.declared.Tern.{Tern}
 use Rattle.fab_ternary.specs.Terns.{plain_tern}
 use Rattle.fab_compiled.specs.declared.tree.Tree.{Tree}
-use Rattle.fab_compiled.specs.Evaluation.{IsWithin}
 use Rattle.fab_compiled.specs.Leading.{PointTerns}
-use Rattle.fab_compiled.specs.Trees.{IsMade}
-use Rattle.fab_nodes.specs.Nodes.{AreKept}
 use Rattle.fab_network.specs.declared.network.Source.{Source}
 use Rattle.fab_network.specs.declared.sharing.Shared.{Shared}
 use Rattle.fab_network.specs.declared.sharing.KeptValues.{KeptValues}
-use Rattle.fab_network.specs.declared.run_values.RunValues.{RunValues}
-use Rattle.fab_network.specs.declared.spreading.Spread.{Spread}
-use Rattle.fab_network.specs.declared.within.Within.{Within}
 use Rattle.fab_network.specs.Network.{source_tern, IsFitSource}
 
 -- A bit that is kept is below what its source has, and is that as long as nothing has come to be known since.
@@ -27,24 +21,6 @@ abbrev pub IsShared : List Tree → (count : ℕ) → PointTerns → Shared → 
 IsShared trees count t shared =
     (bit : ℕ) (kept : Tern) → slice_get shared.bits.items bit ≡ Some kept →
     IsKeptBit trees count t shared.exact (record { tree = shared.tree; first = shared.first; bit = bit }) kept
-
--- What is kept within an expression is right of it.
-pub record IsKeptWithin (trees : List Tree) (count : ℕ) (t : PointTerns) (within : Within) : Type 0 where
-  pub tree : Tree
-  pub is : slice_get trees within.tree ≡ Some tree
-  pub made : IsMade tree
-  pub begins : within.first ≤ count
-  pub inside : IsWithin tree within.first count
-  pub kept : AreKept (λ place. t (within.first + place)) tree within.values
-
--- What is kept of the expressions of a run is right of them.
-pub record IsKeptOfRun (trees : List Tree) (count : ℕ) (t : PointTerns) (values : RunValues) : Type 0 where
-  pub gate : IfSome values.gate (IsKeptWithin trees count t)
-  pub bits : IfSome values.bits (IsKeptWithin trees count t)
-
--- the same of all runs
-abbrev pub IsSpread : List Tree → (count : ℕ) → PointTerns → Spread → Type 0
-IsSpread trees count t spread = All (IsKeptOfRun trees count t) spread.values.items
 
 -- What a pass keeps of expressions is right of them.
 pub record AreShared (trees : List Tree) (count : ℕ) (t : PointTerns) (values : KeptValues) : Type 0 where

@@ -114,7 +114,7 @@ fn form_by(trees: &[Tree], drive: Drive, leads: &[u32], marks: &[bool], terns: &
 }
 
 /// What a point shows by its form, where a latch holds this value.
-pub(crate) fn shown_by_form(
+pub fn shown_by_form(
     network: &Network,
     point: usize,
     held: Tern,

@@ -74,8 +74,8 @@ pub fn evaluate(trees: &[Tree], source: Source, view: &View) -> Tern
     eval(tree, u64::from(source.bit), source.first as usize, view)
 }
 
-// What a point shows, where a latch holds this value; nothing is known of it where there is no such point.
-pub(crate) fn shown(
+/// What a point shows, where a latch holds this value; nothing is known of it where there is no such point.
+pub fn shown(
     network: &Network,
     point: usize,
     held: Tern,
@@ -126,7 +126,7 @@ fn shown_by(
 }
 
 /// The same where another look follows: less may be told where that takes long.
-pub(crate) fn shown_meanwhile(
+pub fn shown_meanwhile(
     network: &Network,
     point: usize,
     held: Tern,

@@ -205,7 +205,7 @@ pub struct KeptValues {
 
 impl KeptValues {
     /// Nothing has been looked at.
-    pub(crate) fn new(alloc: Global) -> KeptValues
+    pub fn new(alloc: Global) -> KeptValues
         ensures { (trees : List Tree) (count : ℕ) (t : PointTerns) → AreShared trees count t result }
     {
         KeptValues {
@@ -215,7 +215,7 @@ impl KeptValues {
     }
 
     /// More may be known of points from now on.
-    pub(crate) fn note_change(&mut self)
+    pub fn note_change(&mut self)
         ensures { (trees : List Tree) (count : ℕ) (t u : PointTerns) → ((point : ℕ) → point < count → IsBelow (t point) (u point)) →
             AreShared trees count t self.old → AreShared trees count u self.new }
     {

@@ -8,7 +8,9 @@ ghost use Rattle.fab_compiled.specs.Terns.{seen};
 ghost use Rattle.fab_stepping.specs.Boards.{begun_by, given_on, AreKnown, IsBegun, IsBoardOf};
 
 use crate::board::Board;
-use fab_network::{Drive, Network, Readers, settle};
+use fab_network::{Drive, Network};
+use fab_readers::Readers;
+use fab_settling::settle;
 use fab_ternary::Tern;
 
 impl Board {

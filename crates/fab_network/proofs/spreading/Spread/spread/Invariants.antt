@@ -1,9 +1,0 @@
-use Rattle.fab_network.specs.Passes.{IsFurther}
-use Rattle.fab_network.specs.Scenes.{scene_of, IsSpreadOver}
-use Rattle.fab_network.proofs.spreading.Spread.spread.Given as goal
-
-abbrev pub invariant-loop-copy : goal.invariant-loop-copy
-invariant-loop-copy l = record {
-  further : IsFurther (scene_of l.scene) l.initial.terns l.terns;
-  spread : IsSpreadOver l.scene l.terns l.self;
-}

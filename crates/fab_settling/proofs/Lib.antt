@@ -1,0 +1,4 @@
+mod Open
+mod Passing
+mod Growing
+mod Visiting
