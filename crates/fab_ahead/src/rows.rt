@@ -6,11 +6,15 @@ ghost use Rattle.fab_ahead.specs.Rows.{AsksUnmarked};
 use crate::lists::list_by_drive;
 use crate::looks::{Looks, Subject};
 use crate::names::{MANY, end_by_drive, is_ring, may_begin_row, needs_back};
-use fab_network::{Drive, Network};
+use fab_network::{Drive, Network, Source};
+use fab_plans::are_found_together;
 use std::alloc::Global;
 
 /// How often the number of points is doubled at most that a point is taken to need.
 const MOST_DOUBLINGS: u32 = 20;
+
+/// How many looks in vain are enough where a look goes through a whole expression.
+const FEW_LOOKS: u32 = 4;
 
 /// Points that are asked for one after the other.
 #[derive(Clone, Copy, Debug)]
@@ -151,13 +155,13 @@ impl Rows {
     }
 
     // Whether many bits of an expression have been found to need a name that needs them. Its bits may be led to others, by a test that is not known yet; but
-    // with so many looks in vain each of them is taken to need all others.
+    // with so many looks in vain each of them is taken to need all others. Few looks are enough where each goes through the whole expression.
     fn is_in_loop(&mut self, network: &Network, point: u32, needed: u32, waits: bool) -> bool {
         match network.drives.get(point as usize) {
             Some(Drive::Value(source) | Drive::Hold(_, source))
                 if needs_back(network, point, needed, waits) => {
                 let subject = Subject::Expression(source.tree, source.first);
-                self.loops.count(subject) >= MANY
+                self.loops.count(subject) >= looks_in_vain(network, *source)
             }
             _ => false,
         }
@@ -318,6 +322,14 @@ fn row_of(network: &Network, point: u32, needed: u32, depth: usize, waits: bool)
         ring: is_ring(network, point, needed, waits),
         looks: 0,
     })
+}
+
+// How many looks in vain tell that bits of an expression need one another.
+fn looks_in_vain(network: &Network, source: Source) -> u32 {
+    match network.trees.get(source.tree as usize) {
+        Some(tree) if are_found_together(tree) => FEW_LOOKS,
+        _ => MANY,
+    }
 }
 
 // The first point from one up to another that has not been asked for.

@@ -1,5 +1,5 @@
 -- What is kept of the nodes of an expression stays right where more is known of its places.
-use Rattle.std.proofs.Common.{◌≡◌, ℕ, ◌+◌, ◌<◌, List, [], ◌∷◌, take, drop, map}
+use Rattle.std.proofs.Common.{ℕ, ◌+◌, ◌<◌, List, [], ◌∷◌, take, drop, map}
 use Rattle.fab_systems_laws.specs.Ternary.{Tern, IsBelow}
 use Rattle.fab_systems_laws.proofs.Order.{below_trans}
 use Rattle.fab_solutions_laws.specs.Laws.{AreUnder}

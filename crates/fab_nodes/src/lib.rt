@@ -1,10 +1,13 @@
 //! Values of all nodes of an expression, kept while points come to be known one by one.
 #![tactic(auto)]
 
+mod dueness;
 mod filling;
 mod layout;
 mod operands;
+mod pointwise;
 mod renewing;
+mod spans;
 mod values;
 
 pub use values::NodeValues;

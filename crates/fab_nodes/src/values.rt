@@ -13,6 +13,7 @@ use crate::filling::{Spare, fill};
 use crate::layout::{Layout, layout_of};
 use crate::operands::operand_bit;
 use crate::renewing::{News, Renewed, renew};
+use crate::spans::find_spans;
 use fab_base::Memory;
 use fab_compiled::{Tree, View};
 use fab_ternary::Tern;
@@ -53,8 +54,9 @@ impl NodeValues {
         }
         let mut bits = vec![in alloc; Tern::Open; node.room]?;
         let mut spare = Spare::new(alloc);
+        let mut news = News::new(alloc, node.nodes)?;
         fill(tree, &layout, first, view, &mut spare, &mut bits)?;
-        let news = News::new(alloc, node.nodes)?;
+        find_spans(tree, &layout, first, view, &bits, &mut news.spans);
         Ok(NodeValues {
             layout,
             bits,

@@ -21,9 +21,9 @@ const MANY_STEPS: u32 = 8;
 // From how many bits on an expression of fewer steps is found as a whole too.
 const MANY_BITS: u64 = 1 << 10;
 
-// One of so many bits is evaluated alone, before all are found. Where no more than these are asked for, that takes some three times as long as they alone;
-// where all are, a tenth of it.
-const BITS_FOR_A_LOOK: u64 = 32;
+// One of so many bits is evaluated alone, before all are found: a bit alone takes some forty times as long as one among all. Where no more than these are asked
+// for, that takes some four times as long as they alone; where all are, a thirtieth of it.
+const BITS_FOR_A_LOOK: u64 = 128;
 
 // How many bits may stand in a list at once, a byte each. A long chain of operators over a wide name would take gigabytes, and bits alone take nothing.
 const MOST_BITS: u64 = 1 << 26;
