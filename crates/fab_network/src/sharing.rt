@@ -121,7 +121,7 @@ impl Shared {
         true
     }
 
-    /// What a source has, where another look follows. A bit that was open when all bits were found counts as open: alone it takes as long as all of them.
+    /// What a source has, where another look follows. A bit that was open when all bits were found counts as open.
     pub(crate) fn value_meanwhile(&mut self, trees: &[Tree], source: Source, view: &View) -> Tern
         requires fit { IsFitSource trees.now (length view.now.leads.now) source }
         requires view { IsView view.now.terns.now view.now.leads.now }
@@ -137,20 +137,15 @@ impl Shared {
         }
     }
 
-    // Whether a bit was open when all bits of its expression were found, which takes as long as each alone.
+    // Whether a bit was open when all bits of its expression were found.
     fn may_wait(&self, source: Source) -> bool {
         let has_bits = self.is_of(source) && self.bits.len() > 0;
-        has_bits && self.are_together() && self.kept(source.bit).is_none()
+        has_bits && self.kept(source.bit).is_none()
     }
 
     // Whether the expression is that of a source.
     fn is_of(&self, source: Source) -> bool {
         self.tree == source.tree && self.first == source.first
-    }
-
-    // Whether each bit alone may take as long as all of them.
-    fn are_together(&self) -> bool {
-        matches!(self.plan, Plan::Together(_))
     }
 
     // Finds all bits of the expression.

@@ -321,7 +321,7 @@ fn look_on(
     true
 }
 
-// Looks at the point at a place of the order. The look may wait, since another pass follows.
+// Looks at the point at a place of the order.
 fn look_at_reader(
     scene: &Scene,
     place: usize,
@@ -340,6 +340,6 @@ fn look_at_reader(
     if place >= scene.order.len() {
         return;
     }
-    let found = look_at(scene, place, true, shared, terns);
+    let found = look_at(scene, place, false, shared, terns);
     spread.note_found(scene.order[place], found);
 }

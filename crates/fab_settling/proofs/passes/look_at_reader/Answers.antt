@@ -1,4 +1,4 @@
-use Rattle.std.proofs.Common.{true, length, sym, subst, All, List}
+use Rattle.std.proofs.Common.{false, length, sym, subst, All, List}
 use Rattle.fab_compiled.specs.Terns.{seen}
 use Rattle.fab_settling.specs.declared.run_values.RunValues.{RunValues}
 use Rattle.fab_settling.specs.Visits.{Scene, IsFurther}
@@ -11,7 +11,7 @@ use Rattle.fab_settling.proofs.passes.look_at_reader.Goals as goal
 further : (c : goal.After-note_found) → IsFurther (scene_of c.args.scene.now) c.args.terns.now c.look_at-found.new.terns
 further c =
     let ready = c.requires.ready in
-    visit_further (scene_of c.args.scene.now) ready.fit ready.points ready.own c.args.place c.args.terns.now ready.backed c.if-place-scene.false ready.long true
+    visit_further (scene_of c.args.scene.now) ready.fit ready.points ready.own c.args.place c.args.terns.now ready.backed c.if-place-scene.false ready.long false
     c.look_at-found.new.terns c.look_at-found.result c.look_at-found.ensures.visit
 
 pub returns-clause-further : goal.returns-clause-further
