@@ -30,7 +30,10 @@ impl LookedUp {
     pub(crate) fn new(alloc: Global) -> LookedUp
         ensures { (terns : List KeptTern) (leads : List ℕ) (first : ℕ) → AreLookedUp terns leads first result }
     {
-        LookedUp { place: 0, bits: Vec::new(alloc) }
+        LookedUp {
+            place: 0,
+            bits: Vec::new(alloc),
+        }
     }
 
     // Where points begin among those that were looked up, if all of them were.
