@@ -1,5 +1,5 @@
--- Points that were looked up are looked up for every row of points among them.
-use Rattle.std.proofs.Common.{◌≡◌, ℕ, ◌+◌, ◌-◌, ◌≤◌, List, [], length, take, drop, refl, sym, ap, ◌∙◌, subst, arith}
+-- What was found of points that were looked up serves for each row of points among them.
+use Rattle.std.proofs.Common.{◌≡◌, ℕ, ◌+◌, ◌-◌, ◌≤◌, List, length, take, drop, sym, ap, ◌∙◌, arith}
 use Rattle.std.proofs.lemmas.List.{drop-map, take-map}
 use Rattle.fab_systems_laws.specs.Ternary.{Tern}
 use Rattle.fab_solutions_laws.specs.fab_ternary_laws_Shown.{first_terns}
@@ -14,15 +14,12 @@ module _ (terns : List Kept) (leads : List ℕ) (first place : ℕ) where
   abbrev at : ℕ → Tern
   at k = seen terns leads (first + (place + k))
 
-  -- of no points all are looked up
-  pub none_looked : (kept : List Kept) → kept ≡ [] → plain kept ≡ first_terns (length kept) at
-  none_looked kept none = subst (λ (xs : List Kept). plain xs ≡ first_terns (length xs) at) (sym none) refl
-
   -- a row of points among those that were looked up
-  pub part_looked : (kept : List Kept) → plain kept ≡ first_terns (length kept) at → (from count begin : ℕ) → place + from ≡ begin → from + count ≤ length kept →
-      plain (take count (drop from kept)) ≡ first_terns count (λ k. seen terns leads (first + (begin + k)))
+  pub part_looked : (kept : List Kept) → plain kept ≡ first_terns (length kept) at → (from count begin : ℕ) → place + from ≡ begin →
+      from + count ≤ length kept → plain (take count (drop from kept)) ≡ first_terns count (λ k. seen terns leads (first + (begin + k)))
   part_looked kept is from count begin here inside =
       sym (take-map plain_tern count (drop from kept))
       ∙ ap (take count) (sym (drop-map plain_tern from kept) ∙ ap (drop from) is ∙ drop_first from (length kept) at (omega (arith, inside)))
       ∙ take_first count (length kept - from) (λ k. at (from + k)) (omega (arith, inside))
-      ∙ same_first count (λ k. at (from + k)) (λ k. seen terns leads (first + (begin + k))) (λ k l. ap (λ n. seen terns leads (first + n)) (omega (arith, here)))
+      ∙ same_first count (λ k. at (from + k)) (λ k. seen terns leads (first + (begin + k)))
+      (λ k l. ap (λ n. seen terns leads (first + n)) (omega (arith, here)))

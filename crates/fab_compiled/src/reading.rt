@@ -48,7 +48,8 @@ impl LookedUp {
     // Keeps what points have from a place on, unless a longer row is kept already. Where memory is refused, nothing is kept.
     fn keep(&mut self, place: usize, bits: &[Tern])
         ensures { (terns : List KeptTern) (leads : List ℕ) (first : ℕ) → AreLookedUp terns leads first self.old →
-            map plain_tern bits.now ≡ first_terns (length bits.now) (λ k. seen terns leads (first + (place + k))) → AreLookedUp terns leads first self.new }
+            map plain_tern bits.now ≡ first_terns (length bits.now) (λ k. seen terns leads (first + (place + k))) →
+            AreLookedUp terns leads first self.new }
     {
         if bits.len() < FEWEST_KEPT || bits.len() < self.bits.len() {
             return;

@@ -142,7 +142,8 @@ pub(crate) fn whole(
     Ok(bits)
 }
 
-// The same behind the bits of a list. Bits of operands wait there one behind the other, so that one list serves for all of them.
+// The same behind the bits of a list. Bits of operands wait there one behind the other, so that one list serves for all of them. Points that were looked up
+// once serve wherever they stand again.
 #[cycle(adding)]
 fn add_whole(
     tree: &Tree,
@@ -157,7 +158,8 @@ fn add_whole(
     requires begins { first ≤ length view.now.leads.now }
     requires inside { IsWithin tree.now first (length view.now.leads.now) }
     requires looked { AreLookedUp view.now.terns.now view.now.leads.now first looked.old }
-    ensures bits { OnOk result (map plain_tern bits.new.items ≡ map plain_tern bits.old.items ++ value_seen view.now.terns.now view.now.leads.now first tree.now) }
+    ensures bits { OnOk result (map plain_tern bits.new.items ≡ map plain_tern bits.old.items ++
+        value_seen view.now.terns.now view.now.leads.now first tree.now) }
     ensures looked { AreLookedUp view.now.terns.now view.now.leads.now first looked.new }
 {
     let low = bits.len();

@@ -19,8 +19,8 @@ returns-in-Some-clause-bits c =
     ∙ map-append plain_tern old _
     ∙ ap (λ ts. plain old ++ ts)
     (ap₂ (λ n xs. plain (take n (drop from xs))) (omega arith) c.deref.ensures.value
-    ∙ part_looked c.args.view.now.terns.now c.args.view.now.leads.now c.args.first c.args.looked.now.place c.args.looked.now.bits.items c.requires.looked from c.args.count
-    c.args.place c.in-Some.ensures.0 c.in-Some.ensures.1)
+    ∙ part_looked c.args.view.now.terns.now c.args.view.now.leads.now c.args.first c.args.looked.now.place c.args.looked.now.bits.items c.requires.looked
+    from c.args.count c.args.place c.in-Some.ensures.0 c.in-Some.ensures.1)
 
 -- what is looked up here is kept
 pub returns-then-read_points-clause-looked : goal.returns-then-read_points-clause-looked

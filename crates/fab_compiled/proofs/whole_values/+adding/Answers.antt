@@ -34,11 +34,12 @@ add_whole-add_whole-requires t c =
     let count = length c.args.view.now.leads.now in
     let part = c.in-Pick.index.value in
     let made : (tree_width part ≡ c.in-Pick.field-1) × (c.in-Pick.field-1 ≤ 32) × IsMade part = subst IsMade c.in-Pick.is c.requires.made in
-    let inside = subst (λ (x : Tree). IsWithin x c.args.first count) c.in-Pick.is c.requires.inside in (
+    let inside = subst (λ (x : Tree). IsWithin x c.args.first count) c.in-Pick.is c.requires.inside in
+    let one = lent_within c.deref-in-Pick.result.now part c.args.first count c.deref-in-Pick.ensures inside.1 in (
       omega (arith, c.decreases, ap tree_size c.in-Pick.is, ap tree_size c.deref-in-Pick.ensures),
       (
         subst IsMade (sym c.deref-in-Pick.ensures) made.2,
-        (c.requires.view, (c.requires.few, (c.requires.begins, (lent_within c.deref-in-Pick.result.now part c.args.first count c.deref-in-Pick.ensures inside.1, c.requires.looked)))),
+        (c.requires.view, (c.requires.few, (c.requires.begins, (one, c.requires.looked)))),
       ),
     )
 
@@ -47,11 +48,12 @@ add_whole-add_whole-requires-in-Not t c =
     let count = length c.args.view.now.leads.now in
     let part = c.in-Not.inner.value in
     let made : IsMade part = subst IsMade c.in-Not.is c.requires.made in
-    let inside = subst (λ (x : Tree). IsWithin x c.args.first count) c.in-Not.is c.requires.inside in (
+    let inside = subst (λ (x : Tree). IsWithin x c.args.first count) c.in-Not.is c.requires.inside in
+    let one = lent_within c.deref-in-Not.result.now part c.args.first count c.deref-in-Not.ensures inside in (
       omega (arith, c.decreases, ap tree_size c.in-Not.is, ap tree_size c.deref-in-Not.ensures),
       (
         subst IsMade (sym c.deref-in-Not.ensures) made,
-        (c.requires.view, (c.requires.few, (c.requires.begins, (lent_within c.deref-in-Not.result.now part c.args.first count c.deref-in-Not.ensures inside, c.requires.looked)))),
+        (c.requires.view, (c.requires.few, (c.requires.begins, (one, c.requires.looked)))),
       ),
     )
 
@@ -62,11 +64,12 @@ add_whole-add_whole-requires-in-Cond t c =
     let yes = c.in-Cond.yes.value in
     let no = c.in-Cond.no.value in
     let made : (tree_width test ≡ 1) × (tree_width yes ≡ tree_width no) × IsMade test × IsMade yes × IsMade no = subst IsMade c.in-Cond.is c.requires.made in
-    let inside = subst (λ (x : Tree). IsWithin x c.args.first count) c.in-Cond.is c.requires.inside in (
+    let inside = subst (λ (x : Tree). IsWithin x c.args.first count) c.in-Cond.is c.requires.inside in
+    let one = lent_within c.deref-in-Cond.result.now test c.args.first count c.deref-in-Cond.ensures inside.0 in (
       omega (arith, c.decreases, ap tree_size c.in-Cond.is, ap tree_size c.deref-in-Cond.ensures),
       (
         subst IsMade (sym c.deref-in-Cond.ensures) made.2,
-        (c.requires.view, (c.requires.few, (c.requires.begins, (lent_within c.deref-in-Cond.result.now test c.args.first count c.deref-in-Cond.ensures inside.0, c.requires.looked)))),
+        (c.requires.view, (c.requires.few, (c.requires.begins, (one, c.requires.looked)))),
       ),
     )
 
@@ -77,11 +80,12 @@ add_whole-add_whole-requires-in-Yes t c =
     let yes = c.in-Cond.yes.value in
     let no = c.in-Cond.no.value in
     let made : (tree_width test ≡ 1) × (tree_width yes ≡ tree_width no) × IsMade test × IsMade yes × IsMade no = subst IsMade c.in-Cond.is c.requires.made in
-    let inside = subst (λ (x : Tree). IsWithin x c.args.first count) c.in-Cond.is c.requires.inside in (
+    let inside = subst (λ (x : Tree). IsWithin x c.args.first count) c.in-Cond.is c.requires.inside in
+    let one = lent_within c.deref-in-Yes.result.now yes c.args.first count c.deref-in-Yes.ensures inside.1 in (
       omega (arith, c.decreases, ap tree_size c.in-Cond.is, ap tree_size c.deref-in-Yes.ensures),
       (
         subst IsMade (sym c.deref-in-Yes.ensures) made.3,
-        (c.requires.view, (c.requires.few, (c.requires.begins, (lent_within c.deref-in-Yes.result.now yes c.args.first count c.deref-in-Yes.ensures inside.1, c.add_whole-in-Cond.ensures.looked)))),
+        (c.requires.view, (c.requires.few, (c.requires.begins, (one, c.add_whole-in-Cond.ensures.looked)))),
       ),
     )
 
@@ -92,11 +96,12 @@ add_whole-add_whole-requires-in-No t c =
     let yes = c.in-Cond.yes.value in
     let no = c.in-Cond.no.value in
     let made : (tree_width test ≡ 1) × (tree_width yes ≡ tree_width no) × IsMade test × IsMade yes × IsMade no = subst IsMade c.in-Cond.is c.requires.made in
-    let inside = subst (λ (x : Tree). IsWithin x c.args.first count) c.in-Cond.is c.requires.inside in (
+    let inside = subst (λ (x : Tree). IsWithin x c.args.first count) c.in-Cond.is c.requires.inside in
+    let one = lent_within c.deref-in-No.result.now no c.args.first count c.deref-in-No.ensures inside.2 in (
       omega (arith, c.decreases, ap tree_size c.in-Cond.is, ap tree_size c.deref-in-No.ensures),
       (
         subst IsMade (sym c.deref-in-No.ensures) made.4,
-        (c.requires.view, (c.requires.few, (c.requires.begins, (lent_within c.deref-in-No.result.now no c.args.first count c.deref-in-No.ensures inside.2, c.add_whole-in-Cond.ensures.looked)))),
+        (c.requires.view, (c.requires.few, (c.requires.begins, (one, c.add_whole-in-Cond.ensures.looked)))),
       ),
     )
 
@@ -348,7 +353,8 @@ add_whole-entry-found-requires-clause-within t c =
     let inside : (c.in-Pick.place + 2 ^ c.in-Pick.field-1 ≤ length leads - c.args.first) × IsWithin index c.args.first (length leads) =
     subst (λ (x : Tree). IsWithin x c.args.first (length leads)) c.in-Pick.is c.requires.inside in
     let long = behind_long c.args.bits.now.items c.add_whole.new.bits.items c.deref-in-Pick-2.result.now ts c.len-low.result c.deref-in-Pick-2.ensures.value
-    c.in_ok-add_whole-in-Pick.ensures.bits (omega (arith, c.len-low.ensures)) ∙ lent_long terns leads c.args.first lent index c.in-Pick.field-1 c.deref-in-Pick.ensures made.0 made.2 in
+    c.in_ok-add_whole-in-Pick.ensures.bits (omega (arith, c.len-low.ensures))
+    ∙ lent_long terns leads c.args.first lent index c.in-Pick.field-1 c.deref-in-Pick.ensures made.0 made.2 in
     omega (arith, inside.0, ap (λ n. 2 ^ n) long, c.requires.begins)
 
 pub add_whole-returns-in_ok-add_whole-in-Pick-clause-bits : goal.add_whole-returns-in_ok-add_whole-in-Pick-clause-bits
