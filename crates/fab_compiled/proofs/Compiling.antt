@@ -20,7 +20,7 @@ use Rattle.fab_compiled.specs.Compiling.{local_terns, named_terns, IsCompiled, A
 
 -- ---- parts of names
 
-drop_first : (low n : ℕ) (f : ℕ → Tern) → low ≤ n → drop low (first_terns n f) ≡ first_terns (n - low) (λ k. f (low + k))
+pub drop_first : (low n : ℕ) (f : ℕ → Tern) → low ≤ n → drop low (first_terns n f) ≡ first_terns (n - low) (λ k. f (low + k))
 drop_first zero n f l = let e : n - 0 ≡ n = omega arith in let g : (k : ℕ) → f k ≡ f (0 + k) = λ k. ap f (omega arith) in
     (λ j. first_terns n (λ k. g k j)) ∙ ap (λ m. first_terns m (λ k. f (0 + k))) (sym e)
 drop_first (suc low) zero f l = absurd (omega arith)
@@ -29,7 +29,7 @@ drop_first (suc low) (suc n) f l =
     let g : (k : ℕ) → f (suc (low + k)) ≡ f (suc low + k) = λ k. ap f (omega arith) in
     drop_first low n (λ k. f (suc k)) (omega arith) ∙ (λ j. first_terns (n - low) (λ k. g k j)) ∙ ap (λ m. first_terns m (λ k. f (suc low + k))) e
 
-take_first : (m n : ℕ) (f : ℕ → Tern) → m ≤ n → take m (first_terns n f) ≡ first_terns m f
+pub take_first : (m n : ℕ) (f : ℕ → Tern) → m ≤ n → take m (first_terns n f) ≡ first_terns m f
 take_first zero n f l = refl
 take_first (suc m) zero f l = absurd (omega arith)
 take_first (suc m) (suc n) f l = ap (λ ts. f 0 ∷ ts) (take_first m n (λ k. f (suc k)) (omega arith))

@@ -12,6 +12,7 @@ pub mod Placed
 pub mod Evaluated
 pub mod Written
 pub mod Rows
+pub mod Looked
 pub mod Adding
 pub mod Sizes
 pub use Rattle.fab_equations.proofs.Numbering as fab_equations_Numbering

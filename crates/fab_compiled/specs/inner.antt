@@ -2,4 +2,5 @@
 pub mod Picks
 pub mod Indices
 pub mod Pairs
+pub mod Looked
 pub mod Joining

@@ -11,11 +11,12 @@ ghost use Rattle.fab_compiled.specs.Terns.{seen, IsView};
 ghost use Rattle.fab_compiled.specs.Trees.{tree_width, IsMade};
 ghost use Rattle.fab_compiled.specs.Evaluation.{all_known, value_seen, IsWithin};
 ghost use Rattle.fab_compiled.specs.Pairs.{by};
+ghost use Rattle.fab_compiled.specs.inner.Looked.{AreLookedUp};
 ghost use Rattle.fab_compiled.specs.inner.Pairs.{AreLast};
 
 use crate::evaluation::entry;
 use crate::operators::{agreed, both, differs, either, inverse};
-use crate::reading::{add_constant, add_points};
+use crate::reading::{LookedUp, add_constant, add_points};
 use crate::tree::Tree;
 use crate::view::View;
 use fab_base::Memory;
@@ -117,7 +118,8 @@ pub fn whole_into(
     ensures { OnOk result (map plain_tern bits.new.items ≡ value_seen view.now.terns.now view.now.leads.now first tree.now) }
 {
     bits.clear();
-    add_whole(tree, first, view, bits)
+    let mut looked = LookedUp::new(*bits.allocator());
+    add_whole(tree, first, view, &mut looked, bits)
 }
 
 /// The same in a list of its own.
@@ -135,73 +137,84 @@ pub(crate) fn whole(
     ensures { IfOk result (λ bits. map plain_tern bits.items ≡ value_seen view.now.terns.now view.now.leads.now first tree.now) }
 {
     let mut bits = Vec::new(alloc);
-    add_whole(tree, first, view, &mut bits)?;
+    let mut looked = LookedUp::new(alloc);
+    add_whole(tree, first, view, &mut looked, &mut bits)?;
     Ok(bits)
 }
 
-// The same behind the bits of a list. Bits of operands wait there one behind the other, so that one list serves for all of them.
+// The same behind the bits of a list. Bits of operands wait there one behind the other, so that one list serves for all of them. Points that were looked up
+// once serve wherever they stand again.
 #[cycle(adding)]
-fn add_whole(tree: &Tree, first: usize, view: &View, bits: &mut Vec<Tern>) -> Result<(), Memory>
+fn add_whole(
+    tree: &Tree,
+    first: usize,
+    view: &View,
+    looked: &mut LookedUp,
+    bits: &mut Vec<Tern>,
+) -> Result<(), Memory>
     requires made { IsMade tree.now }
     requires view { IsView view.now.terns.now view.now.leads.now }
     requires few { length view.now.leads.now ≤ 2 ^ 32 }
     requires begins { first ≤ length view.now.leads.now }
     requires inside { IsWithin tree.now first (length view.now.leads.now) }
-    ensures { OnOk result (map plain_tern bits.new.items ≡ map plain_tern bits.old.items ++ value_seen view.now.terns.now view.now.leads.now first tree.now) }
+    requires looked { AreLookedUp view.now.terns.now view.now.leads.now first looked.old }
+    ensures bits { OnOk result (map plain_tern bits.new.items ≡ map plain_tern bits.old.items ++
+        value_seen view.now.terns.now view.now.leads.now first tree.now) }
+    ensures looked { AreLookedUp view.now.terns.now view.now.leads.now first looked.new }
 {
     let low = bits.len();
     match tree {
         Tree::Const(constant) => add_constant(constant, bits),
         Tree::Bits(place, count) => {
-            add_points(first, *place as usize, *count as usize, view, bits)
+            add_points(first, *place as usize, *count as usize, view, looked, bits)
         }
         Tree::Pick(place, _, index) => {
-            add_whole(index, first, view, bits)?;
+            add_whole(index, first, view, looked, bits)?;
             let found = entry(&bits[low..], first + *place as usize, 1, view);
             end_in(low, found, bits)
         }
         Tree::Cat(left, _, right) => {
-            add_both(left, right, first, view, bits)?;
+            add_both(left, right, first, view, looked, bits)?;
             Ok(())
         }
         Tree::Not(inner) => {
-            add_whole(inner, first, view, bits)?;
+            add_whole(inner, first, view, looked, bits)?;
             invert(&mut bits[low..]);
             Ok(())
         }
         Tree::And(left, right) => {
-            let middle = add_both(left, right, first, view, bits)?;
+            let middle = add_both(left, right, first, view, looked, bits)?;
             pair_last(Pairing::Both, low, middle, bits);
             Ok(())
         }
         Tree::Or(left, right) => {
-            let middle = add_both(left, right, first, view, bits)?;
+            let middle = add_both(left, right, first, view, looked, bits)?;
             pair_last(Pairing::Either, low, middle, bits);
             Ok(())
         }
         Tree::Xor(left, right) => {
-            let middle = add_both(left, right, first, view, bits)?;
+            let middle = add_both(left, right, first, view, looked, bits)?;
             pair_last(Pairing::Differs, low, middle, bits);
             Ok(())
         }
         Tree::Equal(_, left, right) => {
-            let middle = add_both(left, right, first, view, bits)?;
+            let middle = add_both(left, right, first, view, looked, bits)?;
             compare_last(low, middle, bits)
         }
         Tree::Minus(_, left, right) => {
-            let middle = add_both(left, right, first, view, bits)?;
+            let middle = add_both(left, right, first, view, looked, bits)?;
             subtract_last(low, middle, bits);
             Ok(())
         }
         Tree::Cond(test, yes, no) => {
-            add_whole(test, first, view, bits)?;
+            add_whole(test, first, view, looked, bits)?;
             let test = bit_of(bits, low);
             bits.truncate(low);
             match test {
-                Tern::Yes => add_whole(yes, first, view, bits),
-                Tern::No => add_whole(no, first, view, bits),
+                Tern::Yes => add_whole(yes, first, view, looked, bits),
+                Tern::No => add_whole(no, first, view, looked, bits),
                 Tern::Open => {
-                    let middle = add_both(yes, no, first, view, bits)?;
+                    let middle = add_both(yes, no, first, view, looked, bits)?;
                     pair_last(Pairing::Agreed, low, middle, bits);
                     Ok(())
                 }
@@ -217,6 +230,7 @@ fn add_both(
     right: &Tree,
     first: usize,
     view: &View,
+    looked: &mut LookedUp,
     bits: &mut Vec<Tern>,
 ) -> Result<usize, Memory>
     requires left { IsMade left.now }
@@ -226,13 +240,15 @@ fn add_both(
     requires begins { first ≤ length view.now.leads.now }
     requires left_inside { IsWithin left.now first (length view.now.leads.now) }
     requires right_inside { IsWithin right.now first (length view.now.leads.now) }
+    requires looked { AreLookedUp view.now.terns.now view.now.leads.now first looked.old }
     ensures bits { IfOk result (λ middle. map plain_tern bits.new.items ≡ map plain_tern bits.old.items ++
         (value_seen view.now.terns.now view.now.leads.now first left.now ++ value_seen view.now.terns.now view.now.leads.now first right.now)) }
     ensures middle { IfOk result (λ middle. middle ≡ length bits.old.items + tree_width left.now) }
+    ensures looked { AreLookedUp view.now.terns.now view.now.leads.now first looked.new }
 {
-    add_whole(left, first, view, bits)?;
+    add_whole(left, first, view, looked, bits)?;
     let middle = bits.len();
-    add_whole(right, first, view, bits)?;
+    add_whole(right, first, view, looked, bits)?;
     Ok(middle)
 }
 

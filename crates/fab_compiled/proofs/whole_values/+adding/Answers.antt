@@ -20,13 +20,13 @@ use Rattle.fab_compiled.proofs.whole_values.+adding.Goals as goal
 pub add_both-add_whole-requires : goal.add_both-add_whole-requires
 add_both-add_whole-requires t c = (
   omega (arith, c.decreases),
-  (c.requires.left, (c.requires.view, (c.requires.few, (c.requires.begins, c.requires.left_inside)))),
+  (c.requires.left, (c.requires.view, (c.requires.few, (c.requires.begins, (c.requires.left_inside, c.requires.looked))))),
 )
 
 pub add_both-add_whole-requires-2 : goal.add_both-add_whole-requires-2
 add_both-add_whole-requires-2 t c = (
   omega (arith, c.decreases),
-  (c.requires.right, (c.requires.view, (c.requires.few, (c.requires.begins, c.requires.right_inside)))),
+  (c.requires.right, (c.requires.view, (c.requires.few, (c.requires.begins, (c.requires.right_inside, c.add_whole.ensures.looked))))),
 )
 
 pub add_whole-add_whole-requires : goal.add_whole-add_whole-requires
@@ -34,11 +34,12 @@ add_whole-add_whole-requires t c =
     let count = length c.args.view.now.leads.now in
     let part = c.in-Pick.index.value in
     let made : (tree_width part ≡ c.in-Pick.field-1) × (c.in-Pick.field-1 ≤ 32) × IsMade part = subst IsMade c.in-Pick.is c.requires.made in
-    let inside = subst (λ (x : Tree). IsWithin x c.args.first count) c.in-Pick.is c.requires.inside in (
+    let inside = subst (λ (x : Tree). IsWithin x c.args.first count) c.in-Pick.is c.requires.inside in
+    let one = lent_within c.deref-in-Pick.result.now part c.args.first count c.deref-in-Pick.ensures inside.1 in (
       omega (arith, c.decreases, ap tree_size c.in-Pick.is, ap tree_size c.deref-in-Pick.ensures),
       (
         subst IsMade (sym c.deref-in-Pick.ensures) made.2,
-        (c.requires.view, (c.requires.few, (c.requires.begins, lent_within c.deref-in-Pick.result.now part c.args.first count c.deref-in-Pick.ensures inside.1))),
+        (c.requires.view, (c.requires.few, (c.requires.begins, (one, c.requires.looked)))),
       ),
     )
 
@@ -47,11 +48,12 @@ add_whole-add_whole-requires-in-Not t c =
     let count = length c.args.view.now.leads.now in
     let part = c.in-Not.inner.value in
     let made : IsMade part = subst IsMade c.in-Not.is c.requires.made in
-    let inside = subst (λ (x : Tree). IsWithin x c.args.first count) c.in-Not.is c.requires.inside in (
+    let inside = subst (λ (x : Tree). IsWithin x c.args.first count) c.in-Not.is c.requires.inside in
+    let one = lent_within c.deref-in-Not.result.now part c.args.first count c.deref-in-Not.ensures inside in (
       omega (arith, c.decreases, ap tree_size c.in-Not.is, ap tree_size c.deref-in-Not.ensures),
       (
         subst IsMade (sym c.deref-in-Not.ensures) made,
-        (c.requires.view, (c.requires.few, (c.requires.begins, lent_within c.deref-in-Not.result.now part c.args.first count c.deref-in-Not.ensures inside))),
+        (c.requires.view, (c.requires.few, (c.requires.begins, (one, c.requires.looked)))),
       ),
     )
 
@@ -62,11 +64,12 @@ add_whole-add_whole-requires-in-Cond t c =
     let yes = c.in-Cond.yes.value in
     let no = c.in-Cond.no.value in
     let made : (tree_width test ≡ 1) × (tree_width yes ≡ tree_width no) × IsMade test × IsMade yes × IsMade no = subst IsMade c.in-Cond.is c.requires.made in
-    let inside = subst (λ (x : Tree). IsWithin x c.args.first count) c.in-Cond.is c.requires.inside in (
+    let inside = subst (λ (x : Tree). IsWithin x c.args.first count) c.in-Cond.is c.requires.inside in
+    let one = lent_within c.deref-in-Cond.result.now test c.args.first count c.deref-in-Cond.ensures inside.0 in (
       omega (arith, c.decreases, ap tree_size c.in-Cond.is, ap tree_size c.deref-in-Cond.ensures),
       (
         subst IsMade (sym c.deref-in-Cond.ensures) made.2,
-        (c.requires.view, (c.requires.few, (c.requires.begins, lent_within c.deref-in-Cond.result.now test c.args.first count c.deref-in-Cond.ensures inside.0))),
+        (c.requires.view, (c.requires.few, (c.requires.begins, (one, c.requires.looked)))),
       ),
     )
 
@@ -77,11 +80,12 @@ add_whole-add_whole-requires-in-Yes t c =
     let yes = c.in-Cond.yes.value in
     let no = c.in-Cond.no.value in
     let made : (tree_width test ≡ 1) × (tree_width yes ≡ tree_width no) × IsMade test × IsMade yes × IsMade no = subst IsMade c.in-Cond.is c.requires.made in
-    let inside = subst (λ (x : Tree). IsWithin x c.args.first count) c.in-Cond.is c.requires.inside in (
+    let inside = subst (λ (x : Tree). IsWithin x c.args.first count) c.in-Cond.is c.requires.inside in
+    let one = lent_within c.deref-in-Yes.result.now yes c.args.first count c.deref-in-Yes.ensures inside.1 in (
       omega (arith, c.decreases, ap tree_size c.in-Cond.is, ap tree_size c.deref-in-Yes.ensures),
       (
         subst IsMade (sym c.deref-in-Yes.ensures) made.3,
-        (c.requires.view, (c.requires.few, (c.requires.begins, lent_within c.deref-in-Yes.result.now yes c.args.first count c.deref-in-Yes.ensures inside.1))),
+        (c.requires.view, (c.requires.few, (c.requires.begins, (one, c.add_whole-in-Cond.ensures.looked)))),
       ),
     )
 
@@ -92,11 +96,12 @@ add_whole-add_whole-requires-in-No t c =
     let yes = c.in-Cond.yes.value in
     let no = c.in-Cond.no.value in
     let made : (tree_width test ≡ 1) × (tree_width yes ≡ tree_width no) × IsMade test × IsMade yes × IsMade no = subst IsMade c.in-Cond.is c.requires.made in
-    let inside = subst (λ (x : Tree). IsWithin x c.args.first count) c.in-Cond.is c.requires.inside in (
+    let inside = subst (λ (x : Tree). IsWithin x c.args.first count) c.in-Cond.is c.requires.inside in
+    let one = lent_within c.deref-in-No.result.now no c.args.first count c.deref-in-No.ensures inside.2 in (
       omega (arith, c.decreases, ap tree_size c.in-Cond.is, ap tree_size c.deref-in-No.ensures),
       (
         subst IsMade (sym c.deref-in-No.ensures) made.4,
-        (c.requires.view, (c.requires.few, (c.requires.begins, lent_within c.deref-in-No.result.now no c.args.first count c.deref-in-No.ensures inside.2))),
+        (c.requires.view, (c.requires.few, (c.requires.begins, (one, c.add_whole-in-Cond.ensures.looked)))),
       ),
     )
 
@@ -112,7 +117,7 @@ add_whole-add_both-requires t c =
     let lent = subst IsMade (sym c.deref-in-Cat.ensures) made.1 in
     let other = subst IsMade (sym c.deref-in-Cat-2.ensures) made.2 in (
       omega (arith, c.decreases, ap tree_size c.in-Cat.is, ap tree_size c.deref-in-Cat.ensures, ap tree_size c.deref-in-Cat-2.ensures),
-      (lent, (other, (c.requires.view, (c.requires.few, (c.requires.begins, (one, two)))))),
+      (lent, (other, (c.requires.view, (c.requires.few, (c.requires.begins, (one, (two, c.requires.looked))))))),
     )
 
 pub add_whole-add_both-requires-in-And : goal.add_whole-add_both-requires-in-And
@@ -127,7 +132,7 @@ add_whole-add_both-requires-in-And t c =
     let lent = subst IsMade (sym c.deref-in-And.ensures) made.1 in
     let other = subst IsMade (sym c.deref-in-And-2.ensures) made.2 in (
       omega (arith, c.decreases, ap tree_size c.in-And.is, ap tree_size c.deref-in-And.ensures, ap tree_size c.deref-in-And-2.ensures),
-      (lent, (other, (c.requires.view, (c.requires.few, (c.requires.begins, (one, two)))))),
+      (lent, (other, (c.requires.view, (c.requires.few, (c.requires.begins, (one, (two, c.requires.looked))))))),
     )
 
 pub add_whole-add_both-requires-in-Or : goal.add_whole-add_both-requires-in-Or
@@ -142,7 +147,7 @@ add_whole-add_both-requires-in-Or t c =
     let lent = subst IsMade (sym c.deref-in-Or.ensures) made.1 in
     let other = subst IsMade (sym c.deref-in-Or-2.ensures) made.2 in (
       omega (arith, c.decreases, ap tree_size c.in-Or.is, ap tree_size c.deref-in-Or.ensures, ap tree_size c.deref-in-Or-2.ensures),
-      (lent, (other, (c.requires.view, (c.requires.few, (c.requires.begins, (one, two)))))),
+      (lent, (other, (c.requires.view, (c.requires.few, (c.requires.begins, (one, (two, c.requires.looked))))))),
     )
 
 pub add_whole-add_both-requires-in-Xor : goal.add_whole-add_both-requires-in-Xor
@@ -157,7 +162,7 @@ add_whole-add_both-requires-in-Xor t c =
     let lent = subst IsMade (sym c.deref-in-Xor.ensures) made.1 in
     let other = subst IsMade (sym c.deref-in-Xor-2.ensures) made.2 in (
       omega (arith, c.decreases, ap tree_size c.in-Xor.is, ap tree_size c.deref-in-Xor.ensures, ap tree_size c.deref-in-Xor-2.ensures),
-      (lent, (other, (c.requires.view, (c.requires.few, (c.requires.begins, (one, two)))))),
+      (lent, (other, (c.requires.view, (c.requires.few, (c.requires.begins, (one, (two, c.requires.looked))))))),
     )
 
 pub add_whole-add_both-requires-in-Equal : goal.add_whole-add_both-requires-in-Equal
@@ -172,7 +177,7 @@ add_whole-add_both-requires-in-Equal t c =
     let lent = subst IsMade (sym c.deref-in-Equal.ensures) made.2 in
     let other = subst IsMade (sym c.deref-in-Equal-2.ensures) made.3 in (
       omega (arith, c.decreases, ap tree_size c.in-Equal.is, ap tree_size c.deref-in-Equal.ensures, ap tree_size c.deref-in-Equal-2.ensures),
-      (lent, (other, (c.requires.view, (c.requires.few, (c.requires.begins, (one, two)))))),
+      (lent, (other, (c.requires.view, (c.requires.few, (c.requires.begins, (one, (two, c.requires.looked))))))),
     )
 
 pub add_whole-add_both-requires-in-Minus : goal.add_whole-add_both-requires-in-Minus
@@ -187,7 +192,7 @@ add_whole-add_both-requires-in-Minus t c =
     let lent = subst IsMade (sym c.deref-in-Minus.ensures) made.2 in
     let other = subst IsMade (sym c.deref-in-Minus-2.ensures) made.3 in (
       omega (arith, c.decreases, ap tree_size c.in-Minus.is, ap tree_size c.deref-in-Minus.ensures, ap tree_size c.deref-in-Minus-2.ensures),
-      (lent, (other, (c.requires.view, (c.requires.few, (c.requires.begins, (one, two)))))),
+      (lent, (other, (c.requires.view, (c.requires.few, (c.requires.begins, (one, (two, c.requires.looked))))))),
     )
 
 pub add_whole-add_both-requires-in-Open : goal.add_whole-add_both-requires-in-Open
@@ -203,7 +208,7 @@ add_whole-add_both-requires-in-Open t c =
     let lent = subst IsMade (sym c.deref-in-Open.ensures) made.3 in
     let other = subst IsMade (sym c.deref-in-Open-2.ensures) made.4 in (
       omega (arith, c.decreases, ap tree_size c.in-Cond.is, ap tree_size c.deref-in-Open.ensures, ap tree_size c.deref-in-Open-2.ensures),
-      (lent, (other, (c.requires.view, (c.requires.few, (c.requires.begins, (one, two)))))),
+      (lent, (other, (c.requires.view, (c.requires.few, (c.requires.begins, (one, (two, c.add_whole-in-Cond.ensures.looked))))))),
     )
 
 pub add_both-returns-clause-middle : goal.add_both-returns-clause-middle
@@ -212,7 +217,7 @@ add_both-returns-clause-middle t c =
     omega (
       arith,
       c.len-middle.ensures,
-      added_long c.args.bits.now.items c.add_whole.new.bits.items ts c.in_ok-add_whole.ensures,
+      added_long c.args.bits.now.items c.add_whole.new.bits.items ts c.in_ok-add_whole.ensures.bits,
       wide_at c.args.view.now.terns.now c.args.view.now.leads.now c.args.first c.args.left.now c.requires.left,
     )
 
@@ -227,8 +232,8 @@ add_whole-pair_last-requires-clause-middle t c =
     c.deref-in-And.ensures c.deref-in-And-2.ensures made.0 made.1 made.2 c.args.bits.now.items c.add_both-in-And.new.bits.items c.len-low.result
     c.in_ok-middle-in-And.middle (omega (arith, c.len-low.ensures)) c.in_ok-middle-in-And.ensures.middle c.in_ok-middle-in-And.ensures.bits
 
-pub add_whole-returns-in_ok-middle-in-And : goal.add_whole-returns-in_ok-middle-in-And
-add_whole-returns-in_ok-middle-in-And t c =
+pub add_whole-returns-in_ok-middle-in-And-clause-bits : goal.add_whole-returns-in_ok-middle-in-And-clause-bits
+add_whole-returns-in_ok-middle-in-And-clause-bits t c =
     let value = value_seen c.args.view.now.terns.now c.args.view.now.leads.now c.args.first in
     let l = c.in-And.left.value in
     let r = c.in-And.right.value in
@@ -250,8 +255,8 @@ add_whole-pair_last-requires-in-Or-clause-middle t c =
     c.deref-in-Or.ensures c.deref-in-Or-2.ensures made.0 made.1 made.2 c.args.bits.now.items c.add_both-in-Or.new.bits.items c.len-low.result
     c.in_ok-middle-in-Or.middle (omega (arith, c.len-low.ensures)) c.in_ok-middle-in-Or.ensures.middle c.in_ok-middle-in-Or.ensures.bits
 
-pub add_whole-returns-in_ok-middle-in-Or : goal.add_whole-returns-in_ok-middle-in-Or
-add_whole-returns-in_ok-middle-in-Or t c =
+pub add_whole-returns-in_ok-middle-in-Or-clause-bits : goal.add_whole-returns-in_ok-middle-in-Or-clause-bits
+add_whole-returns-in_ok-middle-in-Or-clause-bits t c =
     let value = value_seen c.args.view.now.terns.now c.args.view.now.leads.now c.args.first in
     let l = c.in-Or.left.value in
     let r = c.in-Or.right.value in
@@ -273,8 +278,8 @@ add_whole-pair_last-requires-in-Xor-clause-middle t c =
     c.deref-in-Xor.ensures c.deref-in-Xor-2.ensures made.0 made.1 made.2 c.args.bits.now.items c.add_both-in-Xor.new.bits.items c.len-low.result
     c.in_ok-middle-in-Xor.middle (omega (arith, c.len-low.ensures)) c.in_ok-middle-in-Xor.ensures.middle c.in_ok-middle-in-Xor.ensures.bits
 
-pub add_whole-returns-in_ok-middle-in-Xor : goal.add_whole-returns-in_ok-middle-in-Xor
-add_whole-returns-in_ok-middle-in-Xor t c =
+pub add_whole-returns-in_ok-middle-in-Xor-clause-bits : goal.add_whole-returns-in_ok-middle-in-Xor-clause-bits
+add_whole-returns-in_ok-middle-in-Xor-clause-bits t c =
     let value = value_seen c.args.view.now.terns.now c.args.view.now.leads.now c.args.first in
     let l = c.in-Xor.left.value in
     let r = c.in-Xor.right.value in
@@ -296,8 +301,8 @@ add_whole-compare_last-requires-clause-middle t c =
     c.deref-in-Equal.ensures c.deref-in-Equal-2.ensures (made.0 ∙ sym made.1) made.2 made.3 c.args.bits.now.items c.add_both-in-Equal.new.bits.items c.len-low.result
     c.in_ok-middle-in-Equal.middle (omega (arith, c.len-low.ensures)) c.in_ok-middle-in-Equal.ensures.middle c.in_ok-middle-in-Equal.ensures.bits
 
-pub add_whole-returns-in_ok-middle-in-Equal : goal.add_whole-returns-in_ok-middle-in-Equal
-add_whole-returns-in_ok-middle-in-Equal t c =
+pub add_whole-returns-in_ok-middle-in-Equal-clause-bits : goal.add_whole-returns-in_ok-middle-in-Equal-clause-bits
+add_whole-returns-in_ok-middle-in-Equal-clause-bits t c =
     let value = value_seen c.args.view.now.terns.now c.args.view.now.leads.now c.args.first in
     let l = c.in-Equal.left.value in
     let r = c.in-Equal.right.value in
@@ -321,8 +326,8 @@ add_whole-subtract_last-requires-clause-middle t c =
     c.deref-in-Minus.ensures c.deref-in-Minus-2.ensures (made.0 ∙ sym made.1) made.2 made.3 c.args.bits.now.items c.add_both-in-Minus.new.bits.items c.len-low.result
     c.in_ok-middle-in-Minus.middle (omega (arith, c.len-low.ensures)) c.in_ok-middle-in-Minus.ensures.middle c.in_ok-middle-in-Minus.ensures.bits
 
-pub add_whole-returns-in_ok-middle-in-Minus : goal.add_whole-returns-in_ok-middle-in-Minus
-add_whole-returns-in_ok-middle-in-Minus t c =
+pub add_whole-returns-in_ok-middle-in-Minus-clause-bits : goal.add_whole-returns-in_ok-middle-in-Minus-clause-bits
+add_whole-returns-in_ok-middle-in-Minus-clause-bits t c =
     let value = value_seen c.args.view.now.terns.now c.args.view.now.leads.now c.args.first in
     let l = c.in-Minus.left.value in
     let r = c.in-Minus.right.value in
@@ -348,11 +353,12 @@ add_whole-entry-found-requires-clause-within t c =
     let inside : (c.in-Pick.place + 2 ^ c.in-Pick.field-1 ≤ length leads - c.args.first) × IsWithin index c.args.first (length leads) =
     subst (λ (x : Tree). IsWithin x c.args.first (length leads)) c.in-Pick.is c.requires.inside in
     let long = behind_long c.args.bits.now.items c.add_whole.new.bits.items c.deref-in-Pick-2.result.now ts c.len-low.result c.deref-in-Pick-2.ensures.value
-    c.in_ok-add_whole-in-Pick.ensures (omega (arith, c.len-low.ensures)) ∙ lent_long terns leads c.args.first lent index c.in-Pick.field-1 c.deref-in-Pick.ensures made.0 made.2 in
+    c.in_ok-add_whole-in-Pick.ensures.bits (omega (arith, c.len-low.ensures))
+    ∙ lent_long terns leads c.args.first lent index c.in-Pick.field-1 c.deref-in-Pick.ensures made.0 made.2 in
     omega (arith, inside.0, ap (λ n. 2 ^ n) long, c.requires.begins)
 
-pub add_whole-returns-in_ok-add_whole-in-Pick : goal.add_whole-returns-in_ok-add_whole-in-Pick
-add_whole-returns-in_ok-add_whole-in-Pick t c =
+pub add_whole-returns-in_ok-add_whole-in-Pick-clause-bits : goal.add_whole-returns-in_ok-add_whole-in-Pick-clause-bits
+add_whole-returns-in_ok-add_whole-in-Pick-clause-bits t c =
     let terns = c.args.view.now.terns.now in
     let leads = c.args.view.now.leads.now in
     let first = c.args.first in
@@ -367,41 +373,41 @@ add_whole-returns-in_ok-add_whole-in-Pick t c =
     let low = c.len-low.result in
     let made : (tree_width index ≡ width) × (width ≤ 32) × IsMade index = subst IsMade c.in-Pick.is c.requires.made in
     let at : low ≡ length old = omega (arith, c.len-low.ensures) in
-    let long = behind_long old new kept (value lent) low c.deref-in-Pick-2.ensures.value c.in_ok-add_whole-in-Pick.ensures at
+    let long = behind_long old new kept (value lent) low c.deref-in-Pick-2.ensures.value c.in_ok-add_whole-in-Pick.ensures.bits at
     ∙ lent_long terns leads first lent index width c.deref-in-Pick.ensures made.0 made.2 in
     let table : first_terns (2 ^ length (take (length kept - low) (drop low kept))) (λ k. seen terns leads (first + place + 1 * k))
     ≡ first_terns (2 ^ width) (λ k. seen terns leads (first + (place + k))) =
     ap (λ n. first_terns (2 ^ n) (λ k. seen terns leads (first + place + 1 * k))) long ∙ table_is (seen terns leads) (2 ^ width) first place in
-    let bits = behind_plain old new kept (value lent) low c.deref-in-Pick-2.ensures.value c.in_ok-add_whole-in-Pick.ensures at
+    let bits = behind_plain old new kept (value lent) low c.deref-in-Pick-2.ensures.value c.in_ok-add_whole-in-Pick.ensures.bits at
     ∙ ap value c.deref-in-Pick.ensures in
     on_ok c.end_in.result
     (λ is. ap plain is
     ∙ map-append plain_tern (take low new) (c.entry-found.result ∷ [])
-    ∙ ap₂ (λ xs x. xs ++ x ∷ []) (front_plain old new kept (value lent) low c.deref-in-Pick-2.ensures.value c.in_ok-add_whole-in-Pick.ensures at)
+    ∙ ap₂ (λ xs x. xs ++ x ∷ []) (front_plain old new kept (value lent) low c.deref-in-Pick-2.ensures.value c.in_ok-add_whole-in-Pick.ensures.bits at)
     (c.entry-found.ensures ∙ ap₂ entry table bits)
     ∙ ap (λ ts. plain old ++ ts) (sym (ap value c.in-Pick.is)))
     c.end_in.ensures
 
 -- ---- the others
 
-pub add_whole-returns-in_ok-add_whole-in-Not : goal.add_whole-returns-in_ok-add_whole-in-Not
-add_whole-returns-in_ok-add_whole-in-Not t c =
+pub add_whole-returns-in_ok-add_whole-in-Not-clause-bits : goal.add_whole-returns-in_ok-add_whole-in-Not-clause-bits
+add_whole-returns-in_ok-add_whole-in-Not-clause-bits t c =
     let value = value_seen c.args.view.now.terns.now c.args.view.now.leads.now c.args.first in
     let old = c.args.bits.now.items in
     let new = c.add_whole-in-Not.new.bits.items in
     let lent = c.deref-in-Not.result.now in
     let at : c.len-low.result ≡ length old = omega (arith, c.len-low.ensures) in
-    laid_behind old new c.deref_mut.result.now (value lent) c.len-low.result c.deref_mut.ensures.value c.in_ok-add_whole-in-Not.ensures at
+    laid_behind old new c.deref_mut.result.now (value lent) c.len-low.result c.deref_mut.ensures.value c.in_ok-add_whole-in-Not.ensures.bits at
     c.add_whole-in-Not.new.bits.len c.invert.new.bits _ _ (omega arith) c.invert.auto.bits
     ∙ ap (λ ts. plain old ++ ts)
     (c.invert.ensures
     ∙ ap (map inverse)
-    (behind_plain old new c.deref_mut.result.now (value lent) c.len-low.result c.deref_mut.ensures.value c.in_ok-add_whole-in-Not.ensures at
+    (behind_plain old new c.deref_mut.result.now (value lent) c.len-low.result c.deref_mut.ensures.value c.in_ok-add_whole-in-Not.ensures.bits at
     ∙ ap value c.deref-in-Not.ensures)
     ∙ sym (ap value c.in-Not.is))
 
-pub add_whole-returns-in-Yes : goal.add_whole-returns-in-Yes
-add_whole-returns-in-Yes t c =
+pub add_whole-returns-in-Yes-clause-bits : goal.add_whole-returns-in-Yes-clause-bits
+add_whole-returns-in-Yes-clause-bits t c =
     let value = value_seen c.args.view.now.terns.now c.args.view.now.leads.now c.args.first in
     let old = c.args.bits.now.items in
     let new = c.add_whole-in-Cond.new.bits.items in
@@ -409,19 +415,19 @@ add_whole-returns-in-Yes t c =
     let cut : plain c.truncate.new.self.items ≡ plain old =
     ap plain c.truncate.ensures.items
     ∙ front_plain old new c.deref-in-Cond-2.result.now (value c.deref-in-Cond.result.now) c.len-low.result c.deref-in-Cond-2.ensures.value
-    c.in_ok-add_whole-in-Cond.ensures at in
+    c.in_ok-add_whole-in-Cond.ensures.bits at in
     let test_is : yes ≡ tern_at (value c.in-Cond.test.value) 0 =
     c.in-Yes.ensures
     ∙ first_behind old new c.deref-in-Cond-2.result.now (value c.deref-in-Cond.result.now) c.len-low.result c.deref-in-Cond-2.ensures.value
-    c.in_ok-add_whole-in-Cond.ensures at
+    c.in_ok-add_whole-in-Cond.ensures.bits at
     ∙ ap (λ (x : Tree). tern_at (value x) 0) c.deref-in-Cond.ensures in
     on_ok c.add_whole-in-Yes.result
     (λ is. is ∙ ap₂ (λ xs ts. xs ++ ts) cut
     (ap value c.deref-in-Yes.ensures ∙ ap (λ s. one_of s (value c.in-Cond.yes.value) (value c.in-Cond.no.value)) test_is ∙ sym (ap value c.in-Cond.is)))
-    c.add_whole-in-Yes.ensures
+    c.add_whole-in-Yes.ensures.bits
 
-pub add_whole-returns-in-No : goal.add_whole-returns-in-No
-add_whole-returns-in-No t c =
+pub add_whole-returns-in-No-clause-bits : goal.add_whole-returns-in-No-clause-bits
+add_whole-returns-in-No-clause-bits t c =
     let value = value_seen c.args.view.now.terns.now c.args.view.now.leads.now c.args.first in
     let old = c.args.bits.now.items in
     let new = c.add_whole-in-Cond.new.bits.items in
@@ -429,16 +435,16 @@ add_whole-returns-in-No t c =
     let cut : plain c.truncate.new.self.items ≡ plain old =
     ap plain c.truncate.ensures.items
     ∙ front_plain old new c.deref-in-Cond-2.result.now (value c.deref-in-Cond.result.now) c.len-low.result c.deref-in-Cond-2.ensures.value
-    c.in_ok-add_whole-in-Cond.ensures at in
+    c.in_ok-add_whole-in-Cond.ensures.bits at in
     let test_is : no ≡ tern_at (value c.in-Cond.test.value) 0 =
     c.in-No.ensures
     ∙ first_behind old new c.deref-in-Cond-2.result.now (value c.deref-in-Cond.result.now) c.len-low.result c.deref-in-Cond-2.ensures.value
-    c.in_ok-add_whole-in-Cond.ensures at
+    c.in_ok-add_whole-in-Cond.ensures.bits at
     ∙ ap (λ (x : Tree). tern_at (value x) 0) c.deref-in-Cond.ensures in
     on_ok c.add_whole-in-No.result
     (λ is. is ∙ ap₂ (λ xs ts. xs ++ ts) cut
     (ap value c.deref-in-No.ensures ∙ ap (λ s. one_of s (value c.in-Cond.yes.value) (value c.in-Cond.no.value)) test_is ∙ sym (ap value c.in-Cond.is)))
-    c.add_whole-in-No.ensures
+    c.add_whole-in-No.ensures.bits
 
 pub add_whole-pair_last-requires-in-Open-clause-middle : goal.add_whole-pair_last-requires-in-Open-clause-middle
 add_whole-pair_last-requires-in-Open-clause-middle t c =
@@ -449,7 +455,7 @@ add_whole-pair_last-requires-in-Open-clause-middle t c =
     let cut : plain c.truncate.new.self.items ≡ plain old =
     ap plain c.truncate.ensures.items
     ∙ front_plain old new c.deref-in-Cond-2.result.now (value c.deref-in-Cond.result.now) c.len-low.result c.deref-in-Cond-2.ensures.value
-    c.in_ok-add_whole-in-Cond.ensures at in
+    c.in_ok-add_whole-in-Cond.ensures.bits at in
     let l = c.in-Cond.yes.value in
     let r = c.in-Cond.no.value in
     let test = c.in-Cond.test.value in
@@ -458,8 +464,8 @@ add_whole-pair_last-requires-in-Open-clause-middle t c =
     c.deref-in-Open.ensures c.deref-in-Open-2.ensures made.1 made.3 made.4 c.truncate.new.self.items c.add_both-in-Open.new.bits.items c.len-low.result
     c.in_ok-middle-in-Open.middle (at ∙ sym (as_long c.truncate.new.self.items old cut)) c.in_ok-middle-in-Open.ensures.middle c.in_ok-middle-in-Open.ensures.bits
 
-pub add_whole-returns-in_ok-middle-in-Open : goal.add_whole-returns-in_ok-middle-in-Open
-add_whole-returns-in_ok-middle-in-Open t c =
+pub add_whole-returns-in_ok-middle-in-Open-clause-bits : goal.add_whole-returns-in_ok-middle-in-Open-clause-bits
+add_whole-returns-in_ok-middle-in-Open-clause-bits t c =
     let value = value_seen c.args.view.now.terns.now c.args.view.now.leads.now c.args.first in
     let old = c.args.bits.now.items in
     let new = c.add_whole-in-Cond.new.bits.items in
@@ -467,11 +473,11 @@ add_whole-returns-in_ok-middle-in-Open t c =
     let cut : plain c.truncate.new.self.items ≡ plain old =
     ap plain c.truncate.ensures.items
     ∙ front_plain old new c.deref-in-Cond-2.result.now (value c.deref-in-Cond.result.now) c.len-low.result c.deref-in-Cond-2.ensures.value
-    c.in_ok-add_whole-in-Cond.ensures at in
+    c.in_ok-add_whole-in-Cond.ensures.bits at in
     let test_is : unknown ≡ tern_at (value c.in-Cond.test.value) 0 =
     c.in-Open.ensures
     ∙ first_behind old new c.deref-in-Cond-2.result.now (value c.deref-in-Cond.result.now) c.len-low.result c.deref-in-Cond-2.ensures.value
-    c.in_ok-add_whole-in-Cond.ensures at
+    c.in_ok-add_whole-in-Cond.ensures.bits at
     ∙ ap (λ (x : Tree). tern_at (value x) 0) c.deref-in-Cond.ensures in
     let l = c.in-Cond.yes.value in
     let r = c.in-Cond.no.value in
