@@ -1,9 +1,10 @@
-use Rattle.std.proofs.Common.{◌≡◌, List, length, ap, ◌∙◌}
+use Rattle.std.proofs.Common.{◌≡◌, refl, List, length, ap, ◌∙◌}
 use Rattle.std.proofs.lemmas.List.{with_items_is}
 use Rattle.fab_ternary.specs.declared.Tern.{Tern}
 use Rattle.fab_network.specs.Passes.{kept_tern}
 use Rattle.fab_demand.specs.Asked.{Asked}
 use Rattle.fab_demand.specs.Search.{asked_of}
+use Rattle.fab_demand.proofs.Rooms.{keeps_on}
 use Rattle.fab_demand.proofs.Formed.{formed, formed_differs, made_same}
 use Rattle.fab_demand.proofs.demand.Demand.find_forms.Goals as goal
 
@@ -37,3 +38,9 @@ returns-clause-forms c =
     (made_same c.args.network.now.trees.items c.args.network.now.drives.items c.deref-2.result.now old.leads c.deref-3.result.now old.marks c.deref_mut.result.now
     old.terns c.deref.result.now old.own c.forms_of.new.forms.items (c.deref-2.ensures.value ∙ leads) (c.deref-3.ensures.value ∙ marks)
     (c.deref_mut.ensures.value ∙ terns) (c.deref.ensures.value ∙ own) c.forms_of.ensures.forms)
+
+pub invariant_of-self : goal.invariant_of-self
+invariant_of-self c =
+    let search = c.self.inside.search in
+    let kept = with_items_is search.terns c.forms_of.new.terns (c.forms_of.auto.terns ∙ c.deref_mut.ensures.len) in
+    keeps_on search _ c.self.invariant (ap length kept ∙ c.forms_of.auto.terns ∙ ap length c.deref_mut.ensures.value) refl refl refl refl refl

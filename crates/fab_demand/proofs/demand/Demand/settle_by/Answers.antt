@@ -1,7 +1,8 @@
-use Rattle.std.proofs.Common.{◌≡◌, length, sym, ap, ◌∙◌}
+use Rattle.std.proofs.Common.{◌≡◌, refl, length, sym, ap, ◌∙◌}
 use Rattle.std.proofs.lemmas.List.{with_items_is}
 use Rattle.fab_demand.specs.Asked.{Asked}
 use Rattle.fab_demand.specs.Search.{asked_of}
+use Rattle.fab_demand.proofs.Rooms.{keeps_on}
 use Rattle.fab_demand.proofs.Formed.{formed_on, forms_same, settled_differs}
 use Rattle.fab_demand.proofs.Settling.{cycle_shows, settled_of}
 use Rattle.fab_demand.proofs.demand.Demand.settle_by.Goals as goal
@@ -62,3 +63,9 @@ returns-clause-forms c =
     c.settle_anew.new.terns _
     (c.deref.ensures.value ∙ own) (c.deref-2.ensures.value ∙ leads) (c.deref_mut.ensures.value ∙ terns) (sym kept) c.settle_anew.ensures)
     c.requires.forms
+
+pub invariant_of-self : goal.invariant_of-self
+invariant_of-self c =
+    let search = c.self.inside.search in
+    let kept = with_items_is search.terns c.settle_anew.new.terns (c.settle_anew.auto.terns ∙ c.deref_mut.ensures.len) in
+    keeps_on search _ c.self.invariant (ap length kept ∙ c.settle_anew.auto.terns ∙ ap length c.deref_mut.ensures.value) refl refl refl refl refl
