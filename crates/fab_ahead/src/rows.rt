@@ -13,6 +13,9 @@ use std::alloc::Global;
 /// How often the number of points is doubled at most that a point is taken to need.
 const MOST_DOUBLINGS: u32 = 20;
 
+/// Of how many names it is kept which of their points rows have passed.
+const MOST_ASKED: usize = 32;
+
 /// How many looks in vain are enough where a look goes through a whole expression.
 const FEW_LOOKS: u32 = 4;
 
@@ -61,11 +64,16 @@ struct Asked {
 impl Asked {
     const NONE: Asked = Asked { begin: 0, end: 0 };
 
+    // Whether points from one up to another follow one another with these, or overlap.
+    fn touches(self, begin: u32, end: u32) -> bool {
+        begin <= self.end && self.begin <= end
+    }
+
     // The same with more points, where they follow one another with these or overlap, and else those alone.
     fn with(self, begin: u32, end: u32) -> Asked {
         if begin >= end {
             self
-        } else if begin <= self.end && self.begin <= end {
+        } else if self.touches(begin, end) {
             Asked {
                 begin: begin.min(self.begin),
                 end: end.max(self.end),
@@ -96,8 +104,11 @@ pub struct Rows {
     rows: Vec<Row>,
     /// The points of rows that do not follow one another.
     list: Vec<u32>,
-    /// Points that rows have passed. In a name each bit of which needs the one beside it every bit has a row, which would go through all behind it.
-    asked: Asked,
+    /// Points that rows have passed, those of several names where these need one another by turns. In a name each bit of which needs the one beside it every bit
+    /// has a row, which would go through all behind it.
+    asked: Vec<Asked>,
+    /// How often points that rows have passed were forgotten for others.
+    forgotten: usize,
     /// Looks that have closed a bit of an expression.
     looks: Looks,
     /// Looks at a point that have found one more that it needs.
@@ -112,7 +123,8 @@ impl Rows {
         Rows {
             rows: Vec::new(alloc),
             list: Vec::new(alloc),
-            asked: Asked::NONE,
+            asked: Vec::new(alloc),
+            forgotten: 0,
             looks: Looks::new(),
             finds: Looks::new(),
             loops: Looks::new(),
@@ -128,7 +140,8 @@ impl Rows {
     /// Nothing has been counted, and no point waits.
     pub fn clear(&mut self) {
         self.end();
-        self.asked = Asked::NONE;
+        self.asked.clear();
+        self.forgotten = 0;
         self.looks = Looks::new();
         self.finds = Looks::new();
         self.loops = Looks::new();
@@ -253,19 +266,54 @@ impl Rows {
     fn first_between(&mut self, next: u32, end: u32, marks: &[bool]) -> Option<Found>
         ensures { IfSome result (λ found. slice_get marks.now found.point ≡ Some false) }
     {
-        let before = end.min(self.asked.begin);
+        let number = self.number_for(next, end);
+        let asked = self.asked.get(number).copied().unwrap_or(Asked::NONE);
+        let before = end.min(asked.begin);
         let found = match first_unmarked(next, before, marks) {
             Some(found) => Some(found),
-            None => first_unmarked(next.max(self.asked.end), end, marks),
+            None => first_unmarked(next.max(asked.end), end, marks),
         };
         let Some(point) = found else {
-            self.asked = self.asked.with(next, end);
+            self.set_asked(number, asked.with(next, end));
             return None;
         };
         let behind = point.saturating_add(1);
-        self.asked = self.asked.with(next, behind);
+        self.set_asked(number, asked.with(next, behind));
         let rest = Points::Between(behind, end);
         Some(Found { point, rest })
+    }
+
+    // The number of points that rows have passed and that touch these: of several the first ones. Where there are none, of others that are forgotten, or of none
+    // yet.
+    fn number_for(&mut self, begin: u32, end: u32) -> usize {
+        let mut best = None;
+        for (number, asked) in self.asked.iter().enumerate() {
+            if asked.touches(begin, end) {
+                best = earlier(best, (number, *asked));
+            }
+        }
+        match best {
+            Some((number, _)) => number,
+            None => self.new_number(),
+        }
+    }
+
+    // The number of points that are kept from now on.
+    fn new_number(&mut self) -> usize {
+        let count = self.asked.len();
+        if count < MOST_ASKED && self.asked.push(Asked::NONE).is_ok() {
+            return count;
+        }
+        self.forgotten = self.forgotten.wrapping_add(1);
+        let number = self.forgotten % MOST_ASKED;
+        self.set_asked(number, Asked::NONE);
+        number
+    }
+
+    fn set_asked(&mut self, number: usize, asked: Asked) {
+        if let Some(kept) = self.asked.get_mut(number) {
+            *kept = asked;
+        }
     }
 
     // The same from a place of the list on.
@@ -329,6 +377,14 @@ fn looks_in_vain(network: &Network, source: Source) -> u32 {
     match network.trees.get(source.tree as usize) {
         Some(tree) if are_found_together(tree) => FEW_LOOKS,
         _ => MANY,
+    }
+}
+
+// Of two, the one that begins earlier.
+fn earlier(best: Option<(usize, Asked)>, other: (usize, Asked)) -> Option<(usize, Asked)> {
+    match best {
+        Some((_, asked)) if asked.begin <= other.1.begin => best,
+        _ => Some(other),
     }
 }
 
