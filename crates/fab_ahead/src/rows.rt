@@ -109,8 +109,10 @@ pub struct Rows {
     asked: Vec<Asked>,
     /// How often points that rows have passed were forgotten for others.
     forgotten: usize,
-    /// Looks that have closed a bit of an expression.
+    /// Looks that have closed a bit of an expression which is known or led to a point.
     looks: Looks,
+    /// The same of a bit that stands for itself.
+    closings: Looks,
     /// Looks at a point that have found one more that it needs.
     finds: Looks,
     /// Looks at a bit of an expression that have found one that needs the name of that bit.
@@ -126,6 +128,7 @@ impl Rows {
             asked: Vec::new(alloc),
             forgotten: 0,
             looks: Looks::new(),
+            closings: Looks::new(),
             finds: Looks::new(),
             loops: Looks::new(),
         }
@@ -143,6 +146,7 @@ impl Rows {
         self.asked.clear();
         self.forgotten = 0;
         self.looks = Looks::new();
+        self.closings = Looks::new();
         self.finds = Looks::new();
         self.loops = Looks::new();
     }
@@ -337,14 +341,19 @@ impl Rows {
         }
     }
 
-    /// A look has found what this point has or to which one it is led. Told is whether bits beside it are to be found with it, so that not each of them is
-    /// looked at.
-    pub fn are_others_due(&mut self, network: &Network, point: u32) -> bool {
-        match network.drives.get(point as usize) {
-            Some(Drive::Value(source) | Drive::Hold(_, source)) => {
-                self.looks.is_due(&network.trees, *source)
-            }
-            Some(Drive::Given | Drive::Flop(_, _) | Drive::Same(_)) | None => false,
+    /// A look has closed this point. Told is whether bits beside it are to be closed with it, so that not each of them is looked at. Where it stands for itself
+    /// that is at once, with the second such bit of its expression, the fourth and so on: bits beside it that rest on something else are gone over in vain. Where
+    /// it is known or led to another, it is after as many looks as take as long.
+    pub fn are_others_due(&mut self, network: &Network, point: u32, is_own: bool) -> bool {
+        let Some(Drive::Value(source) | Drive::Hold(_, source)) = network.drives.get(point as usize)
+        else {
+            return false;
+        };
+        if is_own {
+            let subject = Subject::Expression(source.tree, source.first);
+            self.closings.count(subject).is_power_of_two()
+        } else {
+            self.looks.is_due(&network.trees, *source)
         }
     }
 

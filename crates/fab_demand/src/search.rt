@@ -160,7 +160,7 @@ impl Search {
     }
 
     // One step for the last point that waits: what its row tells is asked for without a look. Others beside it are closed with it where it stands for itself,
-    // where many of them have been looked at, and in a row in any case, since there are many then.
+    // as often as pays, where many of them have been looked at, and in a row in any case, since there are many then.
     fn go_by(
         &mut self,
         network: &Network,
@@ -184,8 +184,8 @@ impl Search {
             Next::Ask(needed) => self.wait(needed),
             Next::Look => {
                 self.step(network, clock, given, rows, point);
-                let is_closed = self.stack.len() < depth;
-                if own < self.own.len() || is_closed && rows.are_others_due(network, point) {
+                let is_own = own < self.own.len();
+                if self.stack.len() < depth && rows.are_others_due(network, point, is_own) {
                     self.close_others(network, point);
                 }
             }

@@ -48,3 +48,63 @@ fn add(first: usize, place: u32, count: usize, ranges: &mut Vec<Range>) -> Resul
     ranges.push(Range { first, end })?;
     Ok(())
 }
+
+/// How many names, parts of names and constants an expression has.
+pub(crate) fn parts(tree: &Tree) -> u32 {
+    match tree {
+        Tree::Const(_) | Tree::Bits(_, _) => 1,
+        Tree::Pick(_, _, inner) | Tree::Not(inner) => parts(inner),
+        Tree::Cat(left, _, right)
+        | Tree::And(left, right)
+        | Tree::Or(left, right)
+        | Tree::Xor(left, right)
+        | Tree::Equal(_, left, right)
+        | Tree::Minus(_, left, right) => parts(left).saturating_add(parts(right)),
+        Tree::Cond(test, yes, no) => {
+            let branches = parts(yes).saturating_add(parts(no));
+            parts(test).saturating_add(branches)
+        }
+    }
+}
+
+/// How many points a bit of an expression reads at most.
+pub(crate) fn most_reads(tree: &Tree) -> u32 {
+    match tree {
+        Tree::Const(_) => 0,
+        Tree::Bits(_, _) => 1,
+        Tree::Pick(_, width, index) => {
+            let table = 1_u32.checked_shl(*width).unwrap_or(u32::MAX);
+            table.saturating_add(all_reads(index))
+        }
+        Tree::Not(inner) => most_reads(inner),
+        Tree::Cat(low, _, high) => most_reads(low).max(most_reads(high)),
+        Tree::And(left, right) | Tree::Or(left, right) | Tree::Xor(left, right) => {
+            most_reads(left).saturating_add(most_reads(right))
+        }
+        Tree::Equal(_, left, right) | Tree::Minus(_, left, right) => {
+            all_reads(left).saturating_add(all_reads(right))
+        }
+        Tree::Cond(test, yes, no) => {
+            let branches = most_reads(yes).saturating_add(most_reads(no));
+            most_reads(test).saturating_add(branches)
+        }
+    }
+}
+
+// How many points all bits of an expression read together, one that several of them read counted as often.
+fn all_reads(tree: &Tree) -> u32 {
+    match tree {
+        Tree::Const(_) => 0,
+        Tree::Bits(_, count) => *count,
+        Tree::Not(inner) => all_reads(inner),
+        Tree::Pick(_, _, _) | Tree::Equal(_, _, _) | Tree::Minus(_, _, _) => most_reads(tree),
+        Tree::Cat(left, _, right)
+        | Tree::And(left, right)
+        | Tree::Or(left, right)
+        | Tree::Xor(left, right) => all_reads(left).saturating_add(all_reads(right)),
+        Tree::Cond(test, yes, no) => {
+            let branches = all_reads(yes).saturating_add(all_reads(no));
+            all_reads(test).saturating_add(branches)
+        }
+    }
+}

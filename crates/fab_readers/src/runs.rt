@@ -1,6 +1,6 @@
 //! Points that are bits of one wide expression, and which of these expressions read a point.
 
-use crate::reads::{Range, ranges_of};
+use crate::reads::{Range, most_reads, parts, ranges_of};
 use fab_base::Memory;
 use fab_compiled::Tree;
 use fab_network::{Drive, Network, Source};
@@ -10,14 +10,23 @@ use std::alloc::Global;
 /// From how many bits on an expression is wide.
 const WIDE: u32 = 32;
 
+/// How many points a bit may read to be looked at alone: it is noted for each of them.
+const FEW_READS: u32 = 3;
+
+/// How many names, parts of names and constants an expression has at most whose nodes are few.
+const MANY_PARTS: u32 = 64;
+
 /// How many points have their notes in common.
 const BLOCK: u32 = 64;
 
 /// Stands for a note, a point or a place where there is none.
 const NONE: u32 = u32::MAX;
 
+/// Stands for the place of a point whose run is not one of a wide expression.
+const NARROW: u32 = u32::MAX - 1;
+
 /// Stands for the place of a point of a run that is not in the order, or has not been met there.
-const UNPLACED: u32 = u32::MAX - 1;
+const UNPLACED: u32 = u32::MAX - 2;
 
 /// Points that follow one another and are bits of one expression, or latches behind one gate that take such bits.
 #[derive(Clone, Copy, Debug)]
@@ -95,7 +104,7 @@ impl Runs {
     // The runs that have points of the order, and the places of these.
     fn list_runs(&mut self, network: &Network, order: &[u32]) -> Result<(), Memory> {
         for (place, point) in order.iter().enumerate() {
-            if !self.has(*point) {
+            if self.is_new(*point) {
                 self.add_run_of(network, *point)?;
             }
             self.set_place(*point, place);
@@ -103,30 +112,41 @@ impl Runs {
         Ok(())
     }
 
-    // The run of a point, if it is one of a wide expression.
-    fn add_run_of(&mut self, network: &Network, point: u32) -> Result<(), Memory> {
-        match wide_run(network, point) {
-            Some(run) => self.add(run),
-            None => Ok(()),
-        }
+    // Whether the run of a point has not been met yet.
+    fn is_new(&self, point: u32) -> bool {
+        self.places.get(point as usize).copied() == Some(NONE)
     }
 
     /// Whether a point is one of a run.
-    pub(crate) fn has(&self, point: u32) -> bool {
+    pub fn has(&self, point: u32) -> bool {
         self.places
             .get(point as usize)
-            .is_some_and(|place| *place != NONE)
+            .is_some_and(|place| *place <= UNPLACED)
     }
 
-    // One more run.
-    fn add(&mut self, run: Run) -> Result<(), Memory> {
-        self.runs.push(run)?;
-        for point in run.first..run.first.saturating_add(run.count) {
-            if let Some(place) = self.places.get_mut(point as usize) {
-                *place = UNPLACED;
+    // The run of a point, if it is one of a wide expression.
+    fn add_run_of(&mut self, network: &Network, point: u32) -> Result<(), Memory> {
+        let Some(drive) = network.drives.get(point as usize) else {
+            return Ok(());
+        };
+        match run_of(network, point, *drive) {
+            Some(run) if is_wide(network, run, *drive) => {
+                self.runs.push(run)?;
+                self.set_places(run, UNPLACED);
             }
+            Some(run) => self.set_places(run, NARROW),
+            None => {}
         }
         Ok(())
+    }
+
+    // This stands for the places of the points of a run from now on.
+    fn set_places(&mut self, run: Run, stand_in: u32) {
+        for point in run.first..run.first.saturating_add(run.count) {
+            if let Some(place) = self.places.get_mut(point as usize) {
+                *place = stand_in;
+            }
+        }
     }
 
     // A point stands at this place of the order, which is kept of points of runs.
@@ -264,15 +284,13 @@ fn given(number: u32) -> Option<u32> {
     if number == NONE { None } else { Some(number) }
 }
 
-// The run of a point, where it is one of a wide expression.
-fn wide_run(network: &Network, point: u32) -> Option<Run> {
-    let drive = *network.drives.get(point as usize)?;
-    let run = run_of(network, point, drive)?;
-    if run.count >= WIDE || are_together(network, drive) {
-        Some(run)
-    } else {
-        None
+// Whether a run of this drive is one of a wide expression: of one whose bits share work, or of many bits. Where an expression has many parts and each of its
+// bits reads few points, its points are looked at alone: a walk to one of the parts would go past the others.
+fn is_wide(network: &Network, run: Run, drive: Drive) -> bool {
+    if are_together(network, drive) {
+        return true;
     }
+    run.count >= WIDE && (reads_many(network, drive) || !has_many_parts(network, drive))
 }
 
 // The points about one of this drive that are bits beside it.
@@ -334,6 +352,38 @@ fn are_together(network: &Network, drive: Drive) -> bool {
         Drive::Given | Drive::Flop(_, _) | Drive::Same(_) => false,
         Drive::Value(source) => is_together(network, source),
         Drive::Hold(gate, latched) => is_together(network, gate) || is_together(network, latched),
+    }
+}
+
+// Whether a point of this drive reads more points than there is room to note for each.
+fn reads_many(network: &Network, drive: Drive) -> bool {
+    let reads = match drive {
+        Drive::Given | Drive::Flop(_, _) | Drive::Same(_) => 0,
+        Drive::Value(source) => reads_of(network, source),
+        Drive::Hold(gate, latched) => {
+            reads_of(network, gate).saturating_add(reads_of(network, latched))
+        }
+    };
+    reads > FEW_READS
+}
+
+// Whether the expression of the bits of a drive has many parts.
+fn has_many_parts(network: &Network, drive: Drive) -> bool {
+    match drive {
+        Drive::Given | Drive::Flop(_, _) | Drive::Same(_) => false,
+        Drive::Value(source) | Drive::Hold(_, source) => {
+            match network.trees.get(source.tree as usize) {
+                Some(tree) => parts(tree) > MANY_PARTS,
+                None => false,
+            }
+        }
+    }
+}
+
+fn reads_of(network: &Network, source: Source) -> u32 {
+    match network.trees.get(source.tree as usize) {
+        Some(tree) => most_reads(tree),
+        None => 0,
     }
 }
 
