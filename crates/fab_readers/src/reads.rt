@@ -72,10 +72,7 @@ pub(crate) fn most_reads(tree: &Tree) -> u32 {
     match tree {
         Tree::Const(_) => 0,
         Tree::Bits(_, _) => 1,
-        Tree::Pick(_, width, index) => {
-            let table = 1_u32.checked_shl(*width).unwrap_or(u32::MAX);
-            table.saturating_add(all_reads(index))
-        }
+        Tree::Pick(_, width, index) => table_reads(*width).saturating_add(all_reads(index)),
         Tree::Not(inner) => most_reads(inner),
         Tree::Cat(low, _, high) => most_reads(low).max(most_reads(high)),
         Tree::And(left, right) | Tree::Or(left, right) | Tree::Xor(left, right) => {
@@ -91,20 +88,27 @@ pub(crate) fn most_reads(tree: &Tree) -> u32 {
     }
 }
 
-// How many points all bits of an expression read together, one that several of them read counted as often.
+// How many points an expression reads, one that it names several times counted as often.
 fn all_reads(tree: &Tree) -> u32 {
     match tree {
         Tree::Const(_) => 0,
         Tree::Bits(_, count) => *count,
+        Tree::Pick(_, width, index) => table_reads(*width).saturating_add(all_reads(index)),
         Tree::Not(inner) => all_reads(inner),
-        Tree::Pick(_, _, _) | Tree::Equal(_, _, _) | Tree::Minus(_, _, _) => most_reads(tree),
         Tree::Cat(left, _, right)
         | Tree::And(left, right)
         | Tree::Or(left, right)
-        | Tree::Xor(left, right) => all_reads(left).saturating_add(all_reads(right)),
+        | Tree::Xor(left, right)
+        | Tree::Equal(_, left, right)
+        | Tree::Minus(_, left, right) => all_reads(left).saturating_add(all_reads(right)),
         Tree::Cond(test, yes, no) => {
             let branches = all_reads(yes).saturating_add(all_reads(no));
             all_reads(test).saturating_add(branches)
         }
     }
+}
+
+// How many points a pick by so many bits may pick.
+fn table_reads(width: u32) -> u32 {
+    1_u32.checked_shl(width).unwrap_or(u32::MAX)
 }
