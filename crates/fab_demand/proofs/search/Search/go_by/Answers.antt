@@ -23,18 +23,18 @@ returns-in-Ask-clause-falls c = (needs c).falls
 
 -- ---- a point that a look has closed, and those beside it
 
-pub returns-then-own-len-clause-searching : goal.returns-then-own-len-clause-searching
-returns-then-own-len-clause-searching c = c.close_others.ensures.searching c.args.clock (kept_tern c.args.given.now) c.step.ensures.searching
+pub returns-then-are_others_due-clause-searching : goal.returns-then-are_others_due-clause-searching
+returns-then-are_others_due-clause-searching c = c.close_others.ensures.searching c.args.clock (kept_tern c.args.given.now) c.step.ensures.searching
 
-pub returns-then-own-len-clause-more : goal.returns-then-own-len-clause-more
-returns-then-own-len-clause-more c =
+pub returns-then-are_others_due-clause-more : goal.returns-then-are_others_due-clause-more
+returns-then-are_others_due-clause-more c =
     asks_both (asked_of c.args.self.now) (asked_of c.step.new.self) (asked_of c.close_others.new.self) c.step.ensures.more c.close_others.ensures.more
 
-pub returns-then-len-depth-clause-searching : goal.returns-then-len-depth-clause-searching
-returns-then-len-depth-clause-searching c =
-    c.close_others-then-len-depth.ensures.searching c.args.clock (kept_tern c.args.given.now) c.step-in-LookInRow.ensures.searching
+pub returns-then-len-depth-2-clause-searching : goal.returns-then-len-depth-2-clause-searching
+returns-then-len-depth-2-clause-searching c =
+    c.close_others-then-len-depth-2.ensures.searching c.args.clock (kept_tern c.args.given.now) c.step-in-LookInRow.ensures.searching
 
-pub returns-then-len-depth-clause-more : goal.returns-then-len-depth-clause-more
-returns-then-len-depth-clause-more c =
-    asks_both (asked_of c.args.self.now) (asked_of c.step-in-LookInRow.new.self) (asked_of c.close_others-then-len-depth.new.self) c.step-in-LookInRow.ensures.more
-    c.close_others-then-len-depth.ensures.more
+pub returns-then-len-depth-2-clause-more : goal.returns-then-len-depth-2-clause-more
+returns-then-len-depth-2-clause-more c =
+    asks_both (asked_of c.args.self.now) (asked_of c.step-in-LookInRow.new.self) (asked_of c.close_others-then-len-depth-2.new.self) c.step-in-LookInRow.ensures.more
+    c.close_others-then-len-depth-2.ensures.more
