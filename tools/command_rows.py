@@ -123,6 +123,18 @@ def chain_rows():
     ]
 
 
+def loop_row():
+    """A row whose text has wide names in a loop, of which bits come to be known one by one."""
+    ports = b"".join(b"  input %s,\n" % name for name in (b"CLK", b"UserCLK", b"WriteStrobe", b"[31:0] WriteData", b"X0Y0_A_O_top", b"X1Y0_A_O_top"))
+    nets = b"  wire [63:0] w;\n  wire [63:0] y;\n  reg [63:0] q;\n  assign w = {%s};\n" % b", ".join((b"X0Y0_A_O_top", b"X1Y0_A_O_top") * 32)
+    items = b"  assign y = w & ((w == (q | (w - y))) ? (y - w) : ({y[62:0], w[63:63]} | (w & (~q))));\n"
+    items += b"  always @* if (w == {w[0:0], w[63:1]}) q = {w[0:0], y[63:1]} & (y | w);\n"
+    return row(1, "simulate wide.v wide.bit wide.state wide.stim t", {
+        "wide.v": b"module wide (\n%s  output X2Y0_A_I_top\n);\n%s%s  assign X2Y0_A_I_top = (q == w);\nendmodule\n" % (ports, nets, items),
+        "wide.bit": b"", "wide.state": b"fabulous-state 1\nin way X0Y0.A\nin value X1Y0.A\nout last X2Y0.A\nend\n",
+        "wide.stim": b"way value\n01\n11\n00\n"})
+
+
 def rows(is_small=False):
     """Rows of weight, words and files. The small ones take some milliseconds each."""
     duo = fixtures("duo.csv", "io.list", "log.list")
