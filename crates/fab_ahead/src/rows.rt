@@ -64,6 +64,10 @@ struct Asked {
 impl Asked {
     const NONE: Asked = Asked { begin: 0, end: 0 };
 
+    fn is_none(self) -> bool {
+        self.begin >= self.end
+    }
+
     // Whether points from one up to another follow one another with these, or overlap.
     fn touches(self, begin: u32, end: u32) -> bool {
         begin <= self.end && self.begin <= end
@@ -282,7 +286,9 @@ impl Rows {
             return None;
         };
         let behind = point.saturating_add(1);
-        self.set_asked(number, asked.with(next, behind));
+        if asked.is_none() || asked.touches(next, behind) {
+            self.set_asked(number, asked.with(next, behind));
+        }
         let rest = Points::Between(behind, end);
         Some(Found { point, rest })
     }
