@@ -20,7 +20,7 @@ pub fn inverse(bit: Tern) -> Tern
 }
 
 /// 0 where one is 0, and 1 where both are 1.
-pub fn both(left: Tern, right: Tern) -> Tern
+pub(crate) fn both(left: Tern, right: Tern) -> Tern
     ensures { plain_tern result ≡ both_of (plain_tern left) (plain_tern right) }
 {
     if is_no(left) || is_no(right) {
@@ -34,7 +34,7 @@ pub fn both(left: Tern, right: Tern) -> Tern
 }
 
 /// 1 where one is 1, and 0 where both are 0.
-pub fn either(left: Tern, right: Tern) -> Tern
+pub(crate) fn either(left: Tern, right: Tern) -> Tern
     ensures { plain_tern result ≡ either_of (plain_tern left) (plain_tern right) }
 {
     if left.is_yes() || right.is_yes() {
@@ -58,7 +58,7 @@ pub fn differs(left: Tern, right: Tern) -> Tern
 }
 
 /// What both are, where they are known and agree.
-pub fn agreed(left: Tern, right: Tern) -> Tern
+pub(crate) fn agreed(left: Tern, right: Tern) -> Tern
     ensures { plain_tern result ≡ agreed_of (plain_tern left) (plain_tern right) }
 {
     if is_no(left) && is_no(right) {

@@ -331,8 +331,8 @@ pub fn invert(bits: &mut [Tern])
     }
 }
 
-// Two bits in one.
-fn pair(pairing: Pairing, left: Tern, right: Tern) -> Tern
+/// Two bits in one.
+pub fn pair(pairing: Pairing, left: Tern, right: Tern) -> Tern
     ensures { plain_tern result ≡ by pairing (plain_tern left) (plain_tern right) }
 {
     match pairing {

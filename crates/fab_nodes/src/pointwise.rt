@@ -5,7 +5,6 @@ ghost use Rattle.fab_systems_laws.specs.Ternary.{IsBelow};
 ghost use Rattle.fab_solutions_laws.specs.Laws.{AreUnder};
 ghost use Rattle.fab_solutions_laws.specs.fab_ternary_laws_Operators.{tern_at};
 ghost use Rattle.fab_ternary.specs.Terns.{plain_tern};
-ghost use Rattle.fab_compiled.specs.Pairs.{by};
 ghost use Rattle.fab_compiled.specs.Terns.{seen};
 ghost use Rattle.fab_compiled.specs.Trees.{tree_width};
 ghost use Rattle.fab_compiled.specs.Evaluation.{value_seen};
@@ -15,7 +14,7 @@ ghost use Rattle.fab_nodes.specs.inner.Renewing.{AreBoth, IsRead};
 use crate::layout::Layout;
 use crate::operands::{Binary, Operands, Unary, operand_bit, operands_of};
 use crate::renewing::{News, Renewed};
-use fab_compiled::{Pairing, Tree, agreed, both, differs, either, inverse, through};
+use fab_compiled::{Tree, inverse, pair, through};
 use fab_ternary::Tern;
 
 /// An operand, and where its values stand.
@@ -171,16 +170,4 @@ pub(crate) fn bits_of_both(
     let one = operand_bit(left.tree, of_left, bit, point.first, &point.view);
     let other = operand_bit(right.tree, of_right, bit, point.first, &point.view);
     (one, other)
-}
-
-// Two bits in one.
-fn pair(pairing: Pairing, left: Tern, right: Tern) -> Tern
-    ensures { plain_tern result ≡ by pairing (plain_tern left) (plain_tern right) }
-{
-    match pairing {
-        Pairing::Both => both(left, right),
-        Pairing::Either => either(left, right),
-        Pairing::Differs => differs(left, right),
-        Pairing::Agreed => agreed(left, right),
-    }
 }
