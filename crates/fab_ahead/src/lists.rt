@@ -1,5 +1,6 @@
 //! The points that an expression needs and that have not been asked for, one after the other.
 
+use crate::names::part_of_bit;
 use crate::rows::is_unmarked;
 use fab_compiled::Tree;
 use fab_network::{Drive, Network, Source};
@@ -22,10 +23,11 @@ pub(crate) fn list_by_drive(
     }
 }
 
-// Adds the points of the expression of a source.
+// Adds the points that the bit of a source needs.
 fn list_source(trees: &[Tree], source: Source, marks: &[bool], most: usize, list: &mut Vec<u32>) {
     if let Some(tree) = trees.get(source.tree as usize) {
-        list_tree(tree, source.first, marks, most, list);
+        let part = part_of_bit(tree, u64::from(source.bit));
+        list_tree(part, source.first, marks, most, list);
     }
 }
 

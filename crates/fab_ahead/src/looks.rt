@@ -3,9 +3,10 @@
 use fab_compiled::Tree;
 use fab_network::Source;
 use fab_plans::looks_before_all;
+use std::alloc::Global;
 
-/// Of how many expressions or points looks are counted at a time.
-const PLACES: u32 = 64;
+/// Of how many expressions or points looks are counted at a time: more than a text of 64 KB has wide names.
+const PLACES: u32 = 1 << 11;
 
 /// At how many looks at bits of an expression all of them are found together for the first time. Fewer looks take not much longer than that.
 const FEWEST: u32 = 32;
@@ -39,23 +40,37 @@ struct Count {
 /// Looks at some expressions and points, by places that each has for itself as long as no other needs it.
 #[derive(Drop)]
 pub(crate) struct Looks {
-    counts: [Count; PLACES as usize],
+    /// None as long as nothing has been looked at.
+    counts: Vec<Count>,
 }
 
 impl Looks {
-    /// Nothing has been looked at.
-    pub(crate) fn new() -> Looks {
-        let none = Count {
-            subject: Subject::Point(0),
-            looks: 0,
-        };
+    /// Nothing has been looked at. No memory is taken for it.
+    pub(crate) fn new(alloc: Global) -> Looks {
         Looks {
-            counts: [none; PLACES as usize],
+            counts: Vec::new(alloc),
         }
     }
 
-    /// How many looks there were with this one.
+    /// Nothing has been looked at, as after `new`. The room stays.
+    pub(crate) fn clear(&mut self) {
+        self.counts.clear();
+    }
+
+    // Makes the places, where there are none yet. Where memory is refused, there are still none.
+    fn make_places(&mut self) {
+        if self.counts.is_empty() {
+            let none = Count {
+                subject: Subject::Point(0),
+                looks: 0,
+            };
+            let _ = self.counts.resize(PLACES as usize, none);
+        }
+    }
+
+    /// How many looks there were with this one, or none where there is no memory to count them.
     pub(crate) fn count(&mut self, subject: Subject) -> u32 {
+        self.make_places();
         let Some(count) = self.counts.get_mut(subject.place() as usize) else {
             return 0;
         };

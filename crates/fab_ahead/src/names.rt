@@ -89,6 +89,45 @@ fn leads_to(tree: &Tree, first: u32, point: u32) -> bool {
     }
 }
 
+/// Whether a point is never led to another: the part of its expression in which it stands makes a bit of its own.
+pub(crate) fn is_never_led(network: &Network, point: u32) -> bool {
+    match network.drives.get(point as usize) {
+        Some(Drive::Value(source) | Drive::Hold(_, source)) => {
+            match network.trees.get(source.tree as usize) {
+                Some(tree) => makes_bits(part_of_bit(tree, u64::from(source.bit))),
+                None => false,
+            }
+        }
+        Some(Drive::Given | Drive::Flop(_, _) | Drive::Same(_)) | None => false,
+    }
+}
+
+// Whether each bit of an expression is one that an operator makes.
+fn makes_bits(tree: &Tree) -> bool {
+    match tree {
+        Tree::Const(_) | Tree::Bits(_, _) | Tree::Pick(_, _, _) => false,
+        Tree::Cat(_, _, _) | Tree::Cond(_, _, _) => false,
+        Tree::Not(_) | Tree::And(_, _) | Tree::Or(_, _) | Tree::Xor(_, _) => true,
+        Tree::Equal(_, _, _) | Tree::Minus(_, _, _) => true,
+    }
+}
+
+/// The part of a concatenation in which a bit stands. The other parts do not matter to it.
+pub(crate) fn part_of_bit(tree: &Tree, bit: u64) -> &Tree {
+    match tree {
+        Tree::Cat(low, width, high) => {
+            if bit < *width {
+                part_of_bit(low, bit)
+            } else {
+                part_of_bit(high, bit - *width)
+            }
+        }
+        Tree::Const(_) | Tree::Bits(_, _) | Tree::Pick(_, _, _) => tree,
+        Tree::Not(_) | Tree::And(_, _) | Tree::Or(_, _) | Tree::Xor(_, _) => tree,
+        Tree::Equal(_, _, _) | Tree::Minus(_, _, _) | Tree::Cond(_, _, _) => tree,
+    }
+}
+
 /// Behind the last point of the name in which this point stands that the drive of another needs.
 pub(crate) fn end_by_drive(network: &Network, point: u32, needed: u32) -> u32 {
     match network.drives.get(point as usize) {
@@ -101,7 +140,7 @@ pub(crate) fn end_by_drive(network: &Network, point: u32, needed: u32) -> u32 {
     }
 }
 
-/// Behind the last point of a name of many bits that an expression needs and in which this point stands, or the point itself.
+/// Behind the last point of a name of many bits that the bit of an expression needs and in which this point stands, or the point itself.
 pub fn end_of_rest(network: &Network, source: Source, needed: u32) -> u32 {
     if !may_begin_row(network, needed) {
         return needed;
@@ -114,10 +153,13 @@ pub fn end_of_rest(network: &Network, source: Source, needed: u32) -> u32 {
     }
 }
 
-// Behind the last point of the names of an expression in which this point stands, or the point where it stands in none.
+// Behind the last point of the names that the bit of an expression needs and in which this point stands, or the point where it stands in none.
 fn end_in_source(trees: &[Tree], source: Source, needed: u32) -> u32 {
     match trees.get(source.tree as usize) {
-        Some(tree) => end_in_tree(tree, source.first, needed),
+        Some(tree) => {
+            let part = part_of_bit(tree, u64::from(source.bit));
+            end_in_tree(part, source.first, needed)
+        }
         None => needed,
     }
 }

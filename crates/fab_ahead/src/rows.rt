@@ -5,7 +5,7 @@ ghost use Rattle.fab_ahead.specs.Rows.{AsksUnmarked};
 
 use crate::lists::list_by_drive;
 use crate::looks::{Looks, Subject};
-use crate::names::{MANY, end_by_drive, is_ring, may_begin_row, needs_back};
+use crate::names::{MANY, end_by_drive, is_never_led, is_ring, may_begin_row, needs_back};
 use fab_network::{Drive, Network, Source};
 use fab_plans::are_found_together;
 use std::alloc::Global;
@@ -131,10 +131,10 @@ impl Rows {
             list: Vec::new(alloc),
             asked: Vec::new(alloc),
             forgotten: 0,
-            looks: Looks::new(),
-            closings: Looks::new(),
-            finds: Looks::new(),
-            loops: Looks::new(),
+            looks: Looks::new(alloc),
+            closings: Looks::new(alloc),
+            finds: Looks::new(alloc),
+            loops: Looks::new(alloc),
         }
     }
 
@@ -149,10 +149,10 @@ impl Rows {
         self.end();
         self.asked.clear();
         self.forgotten = 0;
-        self.looks = Looks::new();
-        self.closings = Looks::new();
-        self.finds = Looks::new();
-        self.loops = Looks::new();
+        self.looks.clear();
+        self.closings.clear();
+        self.finds.clear();
+        self.loops.clear();
     }
 
     /// What a look has found that the last of so many waiting points needs, with the rest of the name that it stands in. Told is whether the point before it
@@ -171,8 +171,27 @@ impl Rows {
                 let ring = row.ring || self.is_in_loop(network, point, needed, waits);
                 self.push(Row { ring, ..row });
             }
-            None => self.add_list(network, point, depth, marks),
+            None => {
+                if is_never_led(network, point) && self.is_in_loop(network, point, needed, waits) {
+                    self.add_ring(network, point, depth, marks);
+                } else {
+                    self.add_list(network, point, depth, marks);
+                }
+            }
         }
+    }
+
+    // The same where that name is narrow, and many bits of the expression have been found to need one another: all that the point needs is asked for, and
+    // looked at when all of it waits.
+    fn add_ring(&mut self, network: &Network, point: u32, depth: usize, marks: &[bool]) {
+        let start = self.list.len();
+        list_by_drive(network, point, marks, usize::MAX, &mut self.list);
+        self.push(Row {
+            points: Points::Listed(start, start),
+            depth,
+            ring: true,
+            looks: 0,
+        });
     }
 
     // Whether many bits of an expression have been found to need a name that needs them. Its bits may be led to others, by a test that is not known yet; but

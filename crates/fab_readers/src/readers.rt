@@ -255,12 +255,19 @@ impl Readers {
         self.last.get(point as usize).copied().unwrap_or(UNLISTED)
     }
 
-    /// The readers that stand before a point that is known wait, since a pass came to such a reader first.
+    /// The readers that stand before a point that is known wait, since a pass came to such a reader first. So do open bits of wide expressions that are
+    /// looked at alone, since a pass that has found something does not look at all of them.
     pub fn begin(&mut self, order: &[u32], terns: &[Tern]) {
         for (place, point) in order.iter().enumerate() {
-            if let Some(Tern::No | Tern::Yes) = terns.get(*point as usize) {
-                let note = self.before(place, self.last_note(*point));
-                self.wait_from(note);
+            match terns.get(*point as usize) {
+                Some(Tern::No | Tern::Yes) => {
+                    let note = self.before(place, self.last_note(*point));
+                    self.wait_from(note);
+                }
+                Some(Tern::Open) if self.runs.is_alone(*point) => {
+                    self.wait(u32::try_from(place).unwrap_or(NOBODY));
+                }
+                Some(Tern::Open) | None => {}
             }
         }
     }

@@ -25,8 +25,11 @@ const NONE: u32 = u32::MAX;
 /// Stands for the place of a point whose run is not one of a wide expression.
 const NARROW: u32 = u32::MAX - 1;
 
+/// The same where there are many of them, and each is looked at alone.
+const ALONE: u32 = u32::MAX - 2;
+
 /// Stands for the place of a point of a run that is not in the order, or has not been met there.
-const UNPLACED: u32 = u32::MAX - 2;
+const UNPLACED: u32 = u32::MAX - 3;
 
 /// Points that follow one another and are bits of one expression, or latches behind one gate that take such bits.
 #[derive(Clone, Copy, Debug)]
@@ -124,6 +127,11 @@ impl Runs {
             .is_some_and(|place| *place <= UNPLACED)
     }
 
+    /// Whether a point is a bit of a wide expression that is looked at alone.
+    pub(crate) fn is_alone(&self, point: u32) -> bool {
+        self.places.get(point as usize).copied() == Some(ALONE)
+    }
+
     // The run of a point, if it is one of a wide expression.
     fn add_run_of(&mut self, network: &Network, point: u32) -> Result<(), Memory> {
         let Some(drive) = network.drives.get(point as usize) else {
@@ -134,6 +142,7 @@ impl Runs {
                 self.runs.push(run)?;
                 self.set_places(run, UNPLACED);
             }
+            Some(run) if run.count >= WIDE => self.set_places(run, ALONE),
             Some(run) => self.set_places(run, NARROW),
             None => {}
         }
