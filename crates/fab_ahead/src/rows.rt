@@ -5,7 +5,9 @@ ghost use Rattle.fab_ahead.specs.Rows.{AsksUnmarked};
 
 use crate::lists::list_by_drive;
 use crate::looks::{Looks, Subject};
-use crate::names::{MANY, end_by_drive, is_never_led, is_ring, may_begin_row, needs_back};
+use crate::names::{
+    MANY, end_by_drive, is_never_led, is_ring, may_begin_row, needs_back, part_of_bit,
+};
 use fab_network::{Drive, Network, Source};
 use fab_plans::are_found_together;
 use std::alloc::Global;
@@ -406,10 +408,10 @@ fn row_of(network: &Network, point: u32, needed: u32, depth: usize, waits: bool)
     })
 }
 
-// How many looks in vain tell that bits of an expression need one another.
+// How many looks in vain tell that bits of an expression need one another, by the part in which the bit of a source stands.
 fn looks_in_vain(network: &Network, source: Source) -> u32 {
     match network.trees.get(source.tree as usize) {
-        Some(tree) if are_found_together(tree) => FEW_LOOKS,
+        Some(tree) if are_found_together(part_of_bit(tree, u64::from(source.bit))) => FEW_LOOKS,
         _ => MANY,
     }
 }
