@@ -5,9 +5,9 @@ mod dueness;
 mod filling;
 mod layout;
 mod operands;
+mod paths;
 mod pointwise;
 mod renewing;
-mod spans;
 mod values;
 
 pub use values::NodeValues;

@@ -15,8 +15,8 @@ use crate::dueness::{find_whole, is_due, is_found, is_whole};
 use crate::filling::Spare;
 use crate::layout::Layout;
 use crate::operands::{Binary, Operands, is_leaf, operands_of};
+use crate::paths::Paths;
 use crate::pointwise::{Operand, settle};
-use crate::spans::Span;
 use fab_base::Memory;
 use fab_compiled::{Tree, View};
 use fab_ternary::Tern;
@@ -29,8 +29,8 @@ pub struct News {
     pub bits: Vec<u32>,
     /// By the number of an equality or a difference: how many bits of its operands are known, from the first on. By that of a pick: how often it was looked at.
     pub known: Vec<u64>,
-    /// By the number of a node: the places of the points of which it may learn.
-    pub spans: Vec<Span>,
+    /// Where a walk has to go.
+    pub paths: Paths,
 }
 
 impl News {
@@ -38,7 +38,7 @@ impl News {
         Ok(News {
             bits: Vec::new(alloc),
             known: vec![in alloc; 0; nodes]?,
-            spans: vec![in alloc; Span::all(); nodes]?,
+            paths: Paths::new(alloc, nodes)?,
         })
     }
 }
@@ -73,14 +73,11 @@ pub(crate) fn renew(
     ensures { AreNodes (λ place. seen point.now.view.terns.now point.now.view.leads.now (point.now.first + place)) tree.now (map plain_tern bits.new) }
 {
     let node = layout.node();
-    let place = point.place as u64;
-    if let Some(span) = news.spans.get(node.number) {
-        if !span.has(place) {
-            return;
-        }
+    if !news.paths.has(node.number) {
+        return;
     }
     if is_leaf(tree) {
-        push_place(tree, place, &mut news.bits);
+        push_place(tree, point.place as u64, &mut news.bits);
         return;
     }
     let (own, operands) = bits.split_at_mut(node.width);

@@ -13,7 +13,6 @@ use crate::filling::{Spare, fill};
 use crate::layout::{Layout, layout_of};
 use crate::operands::operand_bit;
 use crate::renewing::{News, Renewed, renew};
-use crate::spans::find_spans;
 use fab_base::Memory;
 use fab_compiled::{Tree, View};
 use fab_ternary::Tern;
@@ -56,7 +55,7 @@ impl NodeValues {
         let mut spare = Spare::new(alloc);
         let mut news = News::new(alloc, node.nodes)?;
         fill(tree, &layout, first, view, &mut spare, &mut bits)?;
-        find_spans(tree, &layout, first, view, &bits, &mut news.spans);
+        news.paths.find(tree, &layout, first, view, &bits);
         Ok(NodeValues {
             layout,
             bits,
@@ -82,6 +81,7 @@ impl NodeValues {
     {
         self.news.bits.clear();
         if let Some(place) = point.checked_sub(first) {
+            self.news.paths.begin(place as u64);
             let point = Renewed {
                 place,
                 first,
